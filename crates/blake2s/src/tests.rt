@@ -1,0 +1,214 @@
+// Digests that another implementation gave, at the lengths where blocks begin and end.
+use super::*;
+use refusal::*;
+use std::test::*;
+
+#[test]
+fn abc() -> Result<(), Fail> {
+    check_eq(
+        digest(b"abc")?,
+        [
+            0x50,
+            0x8c,
+            0x5e,
+            0x8c,
+            0x32,
+            0x7c,
+            0x14,
+            0xe2,
+            0xe1,
+            0xa7,
+            0x2b,
+            0xa3,
+            0x4e,
+            0xeb,
+            0x45,
+            0x2f,
+            0x37,
+            0x45,
+            0x8b,
+            0x20,
+            0x9e,
+            0xd6,
+            0x3a,
+            0x29,
+            0x4d,
+            0x99,
+            0x9b,
+            0x4c,
+            0x86,
+            0x67,
+            0x59,
+            0x82,
+        ],
+    )
+}
+
+#[test]
+fn empty() -> Result<(), Fail> {
+    check_eq(
+        digest(b"")?,
+        [
+            0x69,
+            0x21,
+            0x7a,
+            0x30,
+            0x79,
+            0x90,
+            0x80,
+            0x94,
+            0xe1,
+            0x11,
+            0x21,
+            0xd0,
+            0x42,
+            0x35,
+            0x4a,
+            0x7c,
+            0x1f,
+            0x55,
+            0xb6,
+            0x48,
+            0x2c,
+            0xa1,
+            0xa5,
+            0x1e,
+            0x1b,
+            0x25,
+            0x0d,
+            0xfd,
+            0x1e,
+            0xd0,
+            0xee,
+            0xf9,
+        ],
+    )
+}
+
+#[test]
+fn one_full_block() -> Result<(), Fail> {
+    check_eq(
+        digest(&[b'a'; 64])?,
+        [
+            0x65,
+            0x1d,
+            0x2f,
+            0x5f,
+            0x20,
+            0x95,
+            0x2e,
+            0xac,
+            0xae,
+            0xa2,
+            0xfb,
+            0xa2,
+            0xf2,
+            0xaf,
+            0x2b,
+            0xcd,
+            0x63,
+            0x3e,
+            0x51,
+            0x1e,
+            0xa2,
+            0xd2,
+            0xe4,
+            0xc9,
+            0xae,
+            0x2a,
+            0xc0,
+            0xd9,
+            0xff,
+            0xb7,
+            0xb2,
+            0x52,
+        ],
+    )
+}
+
+#[test]
+fn one_byte_more() -> Result<(), Fail> {
+    check_eq(
+        digest(&[b'a'; 65])?,
+        [
+            0x04,
+            0x5f,
+            0x8a,
+            0xe1,
+            0x89,
+            0x32,
+            0x11,
+            0x9b,
+            0xd0,
+            0x51,
+            0xac,
+            0x7b,
+            0xa5,
+            0xc7,
+            0x3d,
+            0xb5,
+            0x98,
+            0x92,
+            0x05,
+            0x5f,
+            0xad,
+            0x5c,
+            0x32,
+            0xf8,
+            0x2d,
+            0x79,
+            0xa6,
+            0x54,
+            0x3d,
+            0x92,
+            0xa4,
+            0x97,
+        ],
+    )
+}
+
+#[test]
+fn two_full_blocks() -> Result<(), Fail> {
+    check_eq(
+        digest(&[b'a'; 128])?,
+        [
+            0x3a,
+            0xc4,
+            0x77,
+            0xe2,
+            0x73,
+            0x53,
+            0xf9,
+            0x01,
+            0x9b,
+            0x81,
+            0x69,
+            0x4a,
+            0xfe,
+            0x60,
+            0xc8,
+            0x04,
+            0x94,
+            0x03,
+            0x78,
+            0x4f,
+            0x91,
+            0xa5,
+            0x82,
+            0x88,
+            0x42,
+            0x8e,
+            0xa3,
+            0x18,
+            0xbf,
+            0xa8,
+            0x28,
+            0x09,
+        ],
+    )
+}
+
+#[test]
+fn too_long() -> Result<(), Fail> {
+    check_eq(digest(&[b'a'; 129]), Err(Refusal::OverLimit))
+}
