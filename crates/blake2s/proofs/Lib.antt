@@ -1,2 +1,3 @@
-pub mod Mixing
-pub mod Blocks
+mod Mixing
+mod Blocks
+pub mod Octets

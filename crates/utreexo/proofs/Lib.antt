@@ -1,0 +1,3 @@
+mod Reading
+pub mod Fitting
+pub mod Writing
