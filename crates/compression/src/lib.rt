@@ -1,6 +1,8 @@
 // Compressions: what gives each input one image.
 pub mod hash;
 pub mod tally;
+#[cfg(test)]
+mod tests;
 
 ghost use mathlib.Core.Path.{_≡_};
 ghost use Prim.Native.Nat.{ℕ};

@@ -1,9 +1,4 @@
 // The records of the forest.
-ghost use mathlib.Core.Path.{_≡_};
-ghost use Rattle.utreexo.specs.Bytes.{coin-in, coin-bytes, value-in, value-bytes};
-use crate::words::read_word;
-use crate::words::write_words;
-
 // A coin: 32 bytes, as four words with the lowest byte first.
 #[derive(Clone, Copy, PartialEq, Eq, Debug)]
 pub struct Coin {
@@ -13,25 +8,6 @@ pub struct Coin {
     pub w3: u64,
 }
 
-impl Coin {
-    pub fn from_bytes(bytes: &[u8; 32]) -> Coin
-        ensures { λ r. ⌜ r ≡ coin-in (now (bytes .entry)) ⌝ }
-    {
-        Coin {
-            w0: read_word(bytes, 0),
-            w1: read_word(bytes, 8),
-            w2: read_word(bytes, 16),
-            w3: read_word(bytes, 24),
-        }
-    }
-
-    pub fn to_bytes(&self) -> [u8; 32]
-        ensures { λ r. ⌜ r ≡ coin-bytes (now (self .entry)) ⌝ }
-    {
-        write_words(self.w0, self.w1, self.w2, self.w3)
-    }
-}
-
 // A value: the image of an input, 32 bytes in the same form. It is a type of its own, so that no coin is taken for a value.
 #[derive(Clone, Copy, PartialEq, Eq, Debug)]
 pub struct Value {
@@ -39,25 +15,6 @@ pub struct Value {
     pub w1: u64,
     pub w2: u64,
     pub w3: u64,
-}
-
-impl Value {
-    pub fn from_bytes(bytes: &[u8; 32]) -> Value
-        ensures { λ r. ⌜ r ≡ value-in (now (bytes .entry)) ⌝ }
-    {
-        Value {
-            w0: read_word(bytes, 0),
-            w1: read_word(bytes, 8),
-            w2: read_word(bytes, 16),
-            w3: read_word(bytes, 24),
-        }
-    }
-
-    pub fn to_bytes(&self) -> [u8; 32]
-        ensures { λ r. ⌜ r ≡ value-bytes (now (self .entry)) ⌝ }
-    {
-        write_words(self.w0, self.w1, self.w2, self.w3)
-    }
 }
 
 // What a compression takes: one coin, or a left and a right value.

@@ -9,7 +9,14 @@ pub(crate) fn read_word(bytes: &[u8; 32], i: usize) -> u64
     ensures { λ r. ⌜ r ≡ number-in (part i 8 (now (bytes .entry))) ⌝ }
 {
     u64::from_le_bytes([
-        bytes[i], bytes[i + 1], bytes[i + 2], bytes[i + 3], bytes[i + 4], bytes[i + 5], bytes[i + 6], bytes[i + 7],
+        bytes[i],
+        bytes[i + 1],
+        bytes[i + 2],
+        bytes[i + 3],
+        bytes[i + 4],
+        bytes[i + 5],
+        bytes[i + 6],
+        bytes[i + 7],
     ])
 }
 
