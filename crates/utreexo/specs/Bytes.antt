@@ -1,12 +1,17 @@
 -- Numbers, coins and values as bytes, the lowest byte first. A byte is a number below 256.
 use mathlib.Core.List.{List, [], _∷_, _++_}
-use Prim.Native.Nat.{ℕ, zero, suc, _+_, _*_, _/_, _%_}
+use Prim.Native.Nat.{ℕ, zero, suc, _+_, _*_, _/_, _%_, _<_}
 use lib.ListN.{take, drop}
+use Rattle.std.specs.shelf.Lists.{All}
 use Rattle.utreexo.specs.declared.types.Coin.{Coin}
 use Rattle.utreexo.specs.declared.types.Value.{Value}
 
 abbrev pub Bytes : Type 0
 Bytes = List ℕ
+
+-- all of them are bytes indeed
+abbrev pub Octets : Bytes → Type 0
+Octets bs = All (λ b. b < 256) bs
 
 -- the k bytes that begin at byte i
 abbrev pub part : ℕ → ℕ → Bytes → Bytes

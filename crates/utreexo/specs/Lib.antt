@@ -1,3 +1,13 @@
 pub mod Bytes
+pub mod Lists
 pub mod Values
 pub mod Tally
+pub mod Forest
+pub mod Claims
+pub mod Blocks
+pub mod Checks
+pub mod Wallet
+pub mod Collection
+pub mod Register
+pub mod Bridge
+pub mod Promise
