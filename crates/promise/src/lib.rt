@@ -5,6 +5,7 @@ ghost use mathlib.Core.Logic.{_⊎_};
 ghost use Prim.Native.Nat.{ℕ};
 ghost use Rattle.utreexo.specs.Bytes.{Octets};
 ghost use Rattle.utreexo.specs.Values.{Image, Coin-fits, Image-fits};
+ghost use Rattle.utreexo.specs.Checks.{read-causes};
 ghost use Rattle.utreexo.specs.Wallet.{new-wallet, Call};
 ghost use Rattle.utreexo.specs.Register.{new-register, register-take-causes};
 ghost use Rattle.utreexo.specs.Bridge.{Given-octets};

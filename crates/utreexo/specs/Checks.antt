@@ -15,7 +15,7 @@ use Rattle.utreexo.specs.Lists.{any}
 use Rattle.utreexo.specs.Values.{Image}
 use Rattle.utreexo.specs.Forest.{locate, tree-of}
 use Rattle.utreexo.specs.Claims.{Target, Proof, proof-of, beneath, same-node, needed, fits}
-use Rattle.utreexo.specs.Blocks.{Block, spent-count, hash-count, coin-count}
+use Rattle.utreexo.specs.Blocks.{Block, composed, spent-count, hash-count, coin-count}
 
 -- a cause of refusal, with its number
 pub record Cause : Type 0 where
@@ -111,3 +111,16 @@ proof-causes image n roots b =
     cause 9 (any (blank-over n roots) (targets-of n b))
     ∷ cause 10 (not (fits image (block-proof n b) roots))
     ∷ []
+
+-- Compose --------------------------------------------------------------------------------
+
+abbrev pub compose-causes : List ℕ → List Coin → List Value → List Coin → List Cause
+compose-causes targets spent hashes coins =
+    cause 2 (ltb 32 (length targets) || (ltb 32 (length spent) || (ltb 992 (length hashes) || ltb 32 (length coins))))
+    ∷ cause 3 (not (eqb (length targets) (length spent)))
+    ∷ []
+
+-- compose writes a block from the four lists into an output
+abbrev pub compose : List ℕ → List Coin → List Value → List Coin → Bytes → Answer
+compose targets spent hashes coins out =
+    output (compose-causes targets spent hashes coins) (composed (record { targets = targets; spent = spent; hashes = hashes; coins = coins })) out

@@ -11,3 +11,4 @@ pub mod Collection
 pub mod Register
 pub mod Bridge
 pub mod Promise
+pub mod Cases
