@@ -15,5 +15,4 @@ ghost use Rattle.utreexo.specs.Cases.{every, worked-cases};
 // The definitions give what the worked cases expect.
 pub fn worked_cases()
     ensures { λ _. ⌜ every worked-cases ≡ true ⌝ }
-{
-}
+{}
