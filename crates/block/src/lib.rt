@@ -1,0 +1,3 @@
+// Blocks as bytes: the checks on length and counts, the reader, and compose. Nothing here allocates.
+pub mod entry;
+pub mod read;
