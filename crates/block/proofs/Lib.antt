@@ -1,1 +1,4 @@
+mod Composing
+mod Outputs
+mod Placing
 mod Running

@@ -114,13 +114,12 @@ proof-causes image n roots b =
 
 -- Compose --------------------------------------------------------------------------------
 
-abbrev pub compose-causes : List ℕ → List Coin → List Value → List Coin → List Cause
-compose-causes targets spent hashes coins =
-    cause 2 (ltb 32 (length targets) || (ltb 32 (length spent) || (ltb 992 (length hashes) || ltb 32 (length coins))))
-    ∷ cause 3 (not (eqb (length targets) (length spent)))
-    ∷ []
+-- the counts of targets, spent coins, hashes and new coins
+abbrev pub compose-causes : ℕ → ℕ → ℕ → ℕ → List Cause
+compose-causes t d h a = cause 2 (ltb 32 t || (ltb 32 d || (ltb 992 h || ltb 32 a))) ∷ cause 3 (not (eqb t d)) ∷ []
 
 -- compose writes a block from the four lists into an output
 abbrev pub compose : List ℕ → List Coin → List Value → List Coin → Bytes → Answer
 compose targets spent hashes coins out =
-    output (compose-causes targets spent hashes coins) (composed (record { targets = targets; spent = spent; hashes = hashes; coins = coins })) out
+    output (compose-causes (length targets) (length spent) (length hashes) (length coins))
+    (composed (record { targets = targets; spent = spent; hashes = hashes; coins = coins })) out
