@@ -1,3 +1,4 @@
+mod Ascents
 mod Composing
 mod Outputs
 mod Placing

@@ -252,5 +252,5 @@ joined b e =
         cong [] = refl
         cong (i ∷ is) = ap₂ (λ x xs. x ∷ xs) (same (part (from + w * i) w b)) (cong is)
 
-pub run-reads : Run-reads
+pub run-reads : Run-reads 0
 run-reads b e more = (runs b e more, joined b e)

@@ -1,3 +1,4 @@
 pub mod Reader
 pub mod Outcomes
 pub mod Compose
+pub mod Ascending

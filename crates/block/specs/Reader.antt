@@ -108,10 +108,10 @@ all-entries b =
     ++ (entries-from hash 32 (spent-end c) (c .hashes) b
     ++ entries-from new 32 (hashes-end c) (c .coins) b))
 
--- The reader's run over a readable block, with as many calls as there are entries or more, gives exactly these; and their bytes, after
--- the six of the counts, join up to the block.
-abbrev pub Run-reads : Type 0
-Run-reads = (b : Bytes) → refusal (read-causes b) ≡ None → (more : ℕ) →
+-- The reader's run over a readable block, begun with this offset for the entry before the first, and with as many calls as there are
+-- entries or more, gives exactly these; and their bytes, after the six of the counts, join up to the block.
+abbrev pub Run-reads : ℕ → Type 0
+Run-reads before-first = (b : Bytes) → refusal (read-causes b) ≡ None → (more : ℕ) →
     let c = counts-in b in
-    (read-run (c .spent + (c .spent + (c .hashes + (c .coins + more)))) c 0 (drop 6 b) ≡ all-entries b)
+    (read-run (c .spent + (c .spent + (c .hashes + (c .coins + more)))) c before-first (drop 6 b) ≡ all-entries b)
     × (take 6 b ++ concat (map (λ e. bytes-of (e .0)) (all-entries b)) ≡ b)

@@ -3,7 +3,7 @@ ghost use mathlib.Core.Path.{_≡_};
 ghost use Prim.Native.Nat.{ℕ, _+_, _*_, _^_, _<_};
 ghost use Rattle.utreexo.specs.Checks.{read-causes};
 ghost use Rattle.block.specs.Outcomes.{Judged};
-ghost use Rattle.block.specs.Reader.{counts-in, coins-end, next-offset, Reads};
+ghost use Rattle.block.specs.Reader.{counts-in, coins-end, next-offset, Reads, Run-reads};
 use crate::entry::Counts;
 use crate::entry::Entry;
 use refusal::Refusal;
@@ -75,4 +75,11 @@ pub fn next<'a>(counts: Counts, offset: usize, rest: &'a [u8]) -> (Entry<'a>, us
     } else {
         (Entry::End, offset, rest)
     }
+}
+
+// The reader's run over a readable block, begun with the offset 0, gives its entries in order, with their offsets, and they join up to
+// the block. The function does nothing: its contract is that law.
+pub fn run_reads()
+    ensures { λ _. ⌜ Run-reads 0 ⌝ }
+{
 }
