@@ -15,7 +15,12 @@ use utreexo::types::Position;
 use utreexo::types::Value;
 
 // The length of the block with so many targets, spent coins, hashes and new coins, if they are within the limits.
-fn composed_length(targets: usize, spent: usize, hashes: usize, coins: usize) -> Result<usize, Refusal>
+fn composed_length(
+    targets: usize,
+    spent: usize,
+    hashes: usize,
+    coins: usize,
+) -> Result<usize, Refusal>
     ensures { λ r. ⌜ Judged (compose-causes targets spent hashes coins) (λ n. (n ≡ 6 + 40 * spent + 32 * hashes + 32 * coins) × (targets ≡ spent) × (spent ≤ 32) × (hashes ≤ 992) × (coins ≤ 32)) r ⌝ }
 {
     if targets > 32 || spent > 32 || hashes > 992 || coins > 32 {
@@ -28,12 +33,22 @@ fn composed_length(targets: usize, spent: usize, hashes: usize, coins: usize) ->
 }
 
 // Writes the block over the front of the output.
-fn write_block(targets: &[Position], spent: &[Coin], hashes: &[Value], coins: &[Coin], out: &mut [u8])
+fn write_block(
+    targets: &[Position],
+    spent: &[Coin],
+    hashes: &[Value],
+    coins: &[Coin],
+    out: &mut [u8],
+)
     requires few { ⌜ (length (now targets) ≡ length (now spent)) × (length (now spent) ≤ 32) × (length (now hashes) ≤ 992) × (length (now coins) ≤ 32) ⌝ }
     requires room { ⌜ 6 + 40 * length (now spent) + 32 * length (now hashes) + 32 * length (now coins) ≤ length (now out) ⌝ }
     ensures { λ _. ⌜ now (out .exit) ≡ over (composed (record { targets = numbers (now (targets .entry)); spent = now (spent .entry); hashes = now (hashes .entry); coins = now (coins .entry) })) (now (out .entry)) ⌝ }
 {
-    let counts = [Count(spent.len() as u16), Count(hashes.len() as u16), Count(coins.len() as u16)];
+    let counts = [
+        Count(spent.len() as u16),
+        Count(hashes.len() as u16),
+        Count(coins.len() as u16),
+    ];
     let spent_at = 6 + 8 * targets.len();
     let hashes_at = spent_at + 32 * spent.len();
     let coins_at = hashes_at + 32 * hashes.len();
@@ -45,7 +60,13 @@ fn write_block(targets: &[Position], spent: &[Coin], hashes: &[Value], coins: &[
 }
 
 // Composes a block from the four lists into the front of the output, and gives its length. A longer output keeps its tail.
-pub fn compose(targets: &[Position], spent: &[Coin], hashes: &[Value], coins: &[Coin], out: &mut [u8]) -> Result<usize, Refusal>
+pub fn compose(
+    targets: &[Position],
+    spent: &[Coin],
+    hashes: &[Value],
+    coins: &[Coin],
+    out: &mut [u8],
+) -> Result<usize, Refusal>
     ensures answer { λ r. ⌜ answered r (now (out .exit)) ≡ composing (numbers (now (targets .entry))) (now (spent .entry)) (now (hashes .entry)) (now (coins .entry)) (now (out .entry)) ⌝ }
     ensures left { λ r. ⌜ Writes (composed (record { targets = numbers (now (targets .entry)); spent = now (spent .entry); hashes = now (hashes .entry); coins = now (coins .entry) })) (now (out .entry)) (now (out .exit)) r ⌝ }
 {

@@ -23,7 +23,10 @@ pub fn check_length(block: &[u8]) -> Result<Counts, Refusal>
     if counts.spent > 32 || counts.hashes > 992 || counts.coins > 32 {
         return Err(Refusal::OverLimit);
     }
-    let length = 6 + 40 * counts.spent as usize + 32 * counts.hashes as usize + 32 * counts.coins as usize;
+    let length = 6
+        + 40 * counts.spent as usize
+        + 32 * counts.hashes as usize
+        + 32 * counts.coins as usize;
     if block.len() != length {
         return Err(Refusal::WrongLength);
     }
@@ -81,5 +84,4 @@ pub fn next<'a>(counts: Counts, offset: usize, rest: &'a [u8]) -> (Entry<'a>, us
 // the block. The function does nothing: its contract is that law.
 pub fn run_reads()
     ensures { λ _. ⌜ Run-reads 0 ⌝ }
-{
-}
+{}

@@ -31,3 +31,14 @@ pub(crate) fn read(heap: Global, text: &str) -> Result<Vec<Argument>, Fault> {
     }
     Ok(all)
 }
+
+// The bytes of a call that takes bytes alone.
+pub(crate) fn only_bytes(arguments: &[Argument]) -> Result<&[u8], Fault> {
+    let [only] = arguments else {
+        return Err(Fault::Mismatched);
+    };
+    match only {
+        Argument::Bytes(bytes) => Ok(bytes.as_slice()),
+        Argument::Number(_) => Err(Fault::Mismatched),
+    }
+}

@@ -1,5 +1,7 @@
 // Yisturan from the command line. Each word is a task, and the tasks are done in order; no word asks for the demonstration.
+mod answer;
 mod arguments;
+mod blocks;
 mod demonstration;
 mod fault;
 mod hex;

@@ -1,83 +1,38 @@
 // Scripts: a line for each call, answered by the same line and what came of it.
+use crate::answer::*;
 use crate::arguments;
 use crate::arguments::Argument;
+use crate::arguments::only_bytes;
+use crate::blocks;
 use crate::fault::*;
-use crate::hex::*;
-use refusal::Refusal;
 use std::alloc::Global;
-use std::fmt;
 use std::io;
 use std::io::BufRead;
 use std::io::BufReader;
 
-// What a call gave.
-#[derive(Clone, Copy)]
-enum Output {
-    Nothing,
-    Digest([u8; 32]),
-}
-
-impl fmt::Display for Output as OutputDisplay {
-    fn fmt<W: fmt::Write>(&self, f: &mut fmt::Formatter<W>) -> fmt::Result {
-        match self {
-            Output::Nothing => write!(f, "-"),
-            Output::Digest(digest) => {
-                let hex = Hex(digest);
-                write!(f, "{hex}")
-            }
-        }
-    }
-}
-
-// The answer to a call: 0 or the number of its refusal, and what it gave.
-#[derive(Clone, Copy)]
-struct Answer {
-    number: u8,
-    output: Output,
-}
-
-impl fmt::Display for Answer as AnswerDisplay {
-    fn fmt<W: fmt::Write>(&self, f: &mut fmt::Formatter<W>) -> fmt::Result {
-        let number = self.number;
-        let output = self.output;
-        write!(f, "{number} - - - {output}")
-    }
-}
-
-fn granted(output: Output) -> Answer {
-    Answer { number: 0, output }
-}
-
-fn refused(refusal: Refusal) -> Answer {
-    Answer {
-        number: refusal.number(),
-        output: Output::Nothing,
-    }
-}
-
-// blake2s message
-fn digest(arguments: &[Argument]) -> Result<Answer, Fault> {
-    let [only] = arguments else {
-        return Err(Fault::Mismatched);
-    };
-    let Argument::Bytes(message) = only else {
-        return Err(Fault::Mismatched);
-    };
-    match blake2s::digest(message.as_slice()) {
-        Ok(digest) => Ok(granted(Output::Digest(digest))),
-        Err(refusal) => Ok(refused(refusal)),
-    }
-}
-
 #[derive(Clone, Copy)]
 enum Call {
     Blake2s,
+    Read,
+    Entries,
+    Compose,
 }
 
 fn named(name: &str) -> Result<Call, Fault> {
     match name {
         "blake2s" => Ok(Call::Blake2s),
+        "read" => Ok(Call::Read),
+        "entries" => Ok(Call::Entries),
+        "compose" => Ok(Call::Compose),
         _ => Err(Fault::Call),
+    }
+}
+
+// blake2s message
+fn digest(arguments: &[Argument]) -> Result<Answer, Fault> {
+    match blake2s::digest(only_bytes(arguments)?) {
+        Ok(digest) => Ok(granted(Output::Digest(digest))),
+        Err(refusal) => Ok(refused(refusal, Output::Nothing)),
     }
 }
 
@@ -99,6 +54,9 @@ fn make_call(heap: Global, line: &str) -> Result<Answer, Fault> {
     let arguments = arguments::read(heap, text)?;
     match call {
         Call::Blake2s => digest(arguments.as_slice()),
+        Call::Read => blocks::read_counts(arguments.as_slice()),
+        Call::Entries => blocks::list_entries(heap, arguments.as_slice()),
+        Call::Compose => blocks::compose_block(heap, arguments.as_slice()),
     }
 }
 

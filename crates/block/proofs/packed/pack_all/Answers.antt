@@ -36,8 +36,8 @@ loop-item-again g c =
     let (r, q) = next-place f (g .T·Packed .size) (g .T·Packed·met .sized) xs i x (c .args .at) (c .loop-item .start) (length (c .args .out .now)) (c .loop-item-test .taken) (c .item-item .is) (c .pre) (c .loop-item .inv .0) in (
       ap (λ w. c .loop-item .start + w) s ∙ q,
       ap₂ (λ o y. putMid (c .loop-item .start) (c .loop-item .start + c .size-size .result - c .loop-item .start) o y) (c .loop-item .inv .1) (c .pack .ensures)
-      ∙ placed-more (c .args .at) (c .loop-item .start) (c .loop-item .start + c .size-size .result - c .loop-item .start) (packed-up f i xs) (f x) (c .args .out .now) (c .loop-item .inv .0) (omega arith) (omega arith)
-      ∙ ap (λ b. placed (c .args .at) b (c .args .out .now)) (ap (λ y. packed-up f i xs ++ f y) (c .item-item .is) ∙ sym (one-more f xs i x (c .loop-item-test .taken))),
+          ∙ placed-more (c .args .at) (c .loop-item .start) (c .loop-item .start + c .size-size .result - c .loop-item .start) (packed-up f i xs) (f x) (c .args .out .now) (c .loop-item .inv .0) (omega arith) (omega arith)
+          ∙ ap (λ b. placed (c .args .at) b (c .args .out .now)) (ap (λ y. packed-up f i xs ++ f y) (c .item-item .is) ∙ sym (one-more f xs i x (c .loop-item-test .taken))),
     )
 
 pub returns : need.returns
