@@ -1,4 +1,3 @@
 pub mod Reader
-pub mod Outcomes
 pub mod Compose
 pub mod Ascending

@@ -7,7 +7,7 @@ ghost use Rattle.utreexo.specs.Blocks.{ascending};
 ghost use Rattle.utreexo.specs.Checks.{cause};
 ghost use Rattle.block.specs.Ascending.{above};
 ghost use Rattle.block.specs.Compose.{numbers};
-ghost use Rattle.block.specs.Outcomes.{Judged};
+ghost use Rattle.utreexo.specs.Outcomes.{Judged};
 use crate::entry::Counts;
 use refusal::Refusal;
 use utreexo::types::Position;

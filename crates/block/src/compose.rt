@@ -5,7 +5,7 @@ ghost use lib.ListN.{length};
 ghost use Rattle.utreexo.specs.Blocks.{composed};
 ghost use Rattle.utreexo.specs.Checks.{over, compose-causes, compose as composing};
 ghost use Rattle.block.specs.Compose.{numbers};
-ghost use Rattle.block.specs.Outcomes.{Judged, answered, Writes};
+ghost use Rattle.utreexo.specs.Outcomes.{Judged, answered, Writes};
 use crate::packed::Count;
 use crate::packed::pack_all;
 use crate::packed::*;

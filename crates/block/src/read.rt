@@ -2,7 +2,7 @@
 ghost use mathlib.Core.Path.{_≡_};
 ghost use Prim.Native.Nat.{ℕ, _+_, _*_, _^_, _<_};
 ghost use Rattle.utreexo.specs.Checks.{read-causes};
-ghost use Rattle.block.specs.Outcomes.{Judged};
+ghost use Rattle.utreexo.specs.Outcomes.{Judged};
 ghost use Rattle.block.specs.Reader.{counts-in, coins-end, next-offset, Reads, Run-reads};
 use crate::entry::Counts;
 use crate::entry::Entry;

@@ -6,6 +6,7 @@ pub mod Forest
 pub mod Claims
 pub mod Blocks
 pub mod Checks
+pub mod Outcomes
 pub mod Wallet
 pub mod Collection
 pub mod Register
