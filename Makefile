@@ -5,8 +5,8 @@ TASKS ?=
 .PHONY: run test
 
 run:
-	@rt check yisturan > target.log 2>&1 || { cat target.log; rm -f target.log; exit 1; }
-	@rm -f target.log
+	@mkdir -p target
+	@rt check yisturan > target/run.log 2>&1 || { cat target/run.log; exit 1; }
 	@target/bin/yisturan $(TASKS)
 
 test:
