@@ -1,21 +1,19 @@
 -- One appended coin: a path gains at most a hash on top, and what is not joined stays as it was.
 use mathlib.Core.Path.{_≡_, refl, sym, _∙_, ap, fun-ext}
+use mathlib.Core.Logic.{inl, inr}
 use mathlib.Core.List.{List, [], _++_, _∷_}
-use mathlib.Core.Bool.{true, false}
-use mathlib.Core.Logic.{_⊎_, inl, inr}
 use Prim.Native.Nat.{ℕ, zero, suc, _+_, _-_, _*_, _/_, _%_, _<_}
 use native.Mathlib.Omega.{arith}
-use lib.Dec.{eqb}
 use lib.ListN.{length}
 use Rattle.std.specs.declared.option.Option.{Option}
 use Rattle.std.specs.declared.option.Option.the-variants.{Some, None}
+use Rattle.laws.proofs.Logic.{eqb-cases, Eqb-cases}
 use Rattle.laws.proofs.Place.{up, sib, close}
-use Rattle.laws.proofs.Tree.{mapO, Preimage, Tree, coin, grow, skip, bump, tuck, struck, depth, place}
+use Rattle.laws.proofs.Places.{half-even, half-odd, sib-half, with-bit-half, with-bit-mod, up-suc, up-lt, up-add}
+use Rattle.laws.proofs.Tree.{mapO, Preimage, Tree, coin, grow, count-struck, count-kept, with-bit, struck, depth, place}
 use Rattle.laws.proofs.Value.{pushO, valueAt, value, path}
 use Rattle.laws.proofs.Forest.{put, slotOf}
 use Rattle.laws.proofs.After.{value-grow}
-use Rattle.laws.proofs.Places.{half-even, half-odd, sib-half, tuck-half, tuck-mod, up-suc, up-lt, up-add}
-use Rattle.laws.proofs.Logic.{eqb-cases}
 
 module _ {C : Type 0} (slot slot′ : ℕ → Option C) where
   -- a tree depends on its own run's slots alone
@@ -44,18 +42,19 @@ push-append (Some v) l m = refl
 
 module _ {C : Type 0} (slot : ℕ → Option C) where
   -- the row of a slot, with one row more on top
-  pub struck-top : (f j o : ℕ) → (h : ℕ) → j + f ≡ h → struck slot j o (suc f) ≡ skip (grow slot h (sib (up f o))) (struck slot j o f)
+  pub struck-top : (f j o : ℕ) → (h : ℕ) → j + f ≡ h → struck slot j o (suc f) ≡ count-struck (grow slot h (sib (up f o))) (struck slot j o f)
   struck-top zero j o h e = let q : j ≡ h = omega arith in rw q
   struck-top (suc f) j o h e = go (grow slot j (sib o)) (struck-top f (suc j) (o / 2) h (omega arith))
     where
-      skip-skip : {A B : Type 0} (x : Option A) (y : Option B) (n : ℕ) → skip x (skip y n) ≡ skip y (skip x n)
+      skip-skip : {A B : Type 0} (x : Option A) (y : Option B) (n : ℕ) → count-struck x (count-struck y n) ≡ count-struck y (count-struck x n)
       skip-skip None None n = refl
       skip-skip None (Some b) n = refl
       skip-skip (Some a) y n = refl
 
-      go : (x : Option (Tree C)) → struck slot (suc j) (o / 2) (suc f) ≡ skip (grow slot h (sib (up f (o / 2)))) (struck slot (suc j) (o / 2) f)
-          → skip x (struck slot (suc j) (o / 2) (suc f)) ≡ skip (grow slot h (sib (up f (o / 2)))) (skip x (struck slot (suc j) (o / 2) f))
-      go x i = ap (skip x) i ∙ skip-skip x (grow slot h (sib (up f (o / 2)))) (struck slot (suc j) (o / 2) f)
+      go : (x : Option (Tree C)) → struck slot (suc j) (o / 2) (suc f) ≡ count-struck (grow slot h (sib (up f (o / 2)))) (struck slot (suc j) (o / 2) f)
+          → count-struck x (struck slot (suc j) (o / 2) (suc f))
+          ≡ count-struck (grow slot h (sib (up f (o / 2)))) (count-struck x (struck slot (suc j) (o / 2) f))
+      go x i = ap (count-struck x) i ∙ skip-skip x (grow slot h (sib (up f (o / 2)))) (struck slot (suc j) (o / 2) f)
 
   -- the other tree is not blank: the place stays, its bit below the new top
   pub place-top-some : (f j o h : ℕ) (v : Tree C) → j + f ≡ h → grow slot h (sib (up f o)) ≡ Some v → place slot j o (suc f) ≡ place slot j o f
@@ -64,7 +63,7 @@ module _ {C : Type 0} (slot : ℕ → Option C) where
       let s′ : grow slot j (sib o) ≡ Some v = rw q s in
       rw s′ (omega arith)
   place-top-some (suc f) j o h v e s =
-      ap (λ x. tuck (grow slot j (sib o)) x (o % 2)) (place-top-some f (suc j) (o / 2) h v (omega arith) s)
+      ap (λ x. with-bit (grow slot j (sib o)) x (o % 2)) (place-top-some f (suc j) (o / 2) h v (omega arith) s)
 
   -- it is blank: the bit is struck out
   pub place-top-none : (f j o h : ℕ) → j + f ≡ h → grow slot h (sib (up f o)) ≡ None → place slot j o (suc f) ≡ close (depth slot j o f) (place slot j o f)
@@ -75,11 +74,12 @@ module _ {C : Type 0} (slot : ℕ → Option C) where
   place-top-none (suc f) j o h e s = go (grow slot j (sib o)) (place-top-none f (suc j) (o / 2) h (omega arith) s)
     where
       go : (x : Option (Tree C)) → place slot (suc j) (o / 2) (suc f) ≡ close (depth slot (suc j) (o / 2) f) (place slot (suc j) (o / 2) f)
-          → tuck x (place slot (suc j) (o / 2) (suc f)) (o % 2) ≡ close (bump x (depth slot (suc j) (o / 2) f)) (tuck x (place slot (suc j) (o / 2) f) (o % 2))
+          → with-bit x (place slot (suc j) (o / 2) (suc f)) (o % 2)
+          ≡ close (count-kept x (depth slot (suc j) (o / 2) f)) (with-bit x (place slot (suc j) (o / 2) f) (o % 2))
       go None i = i
       go (Some v) i =
-          let a = tuck-half (place slot (suc j) (o / 2) f) o in
-          let b = tuck-mod (place slot (suc j) (o / 2) f) o in
+          let a = with-bit-half (place slot (suc j) (o / 2) f) o in
+          let b = with-bit-mod (place slot (suc j) (o / 2) f) o in
           cc
 
   -- its path gains the value beside the old top, if there is one
@@ -119,14 +119,14 @@ slot-append [] c (suc i) = elim (eqb-cases (suc i) 0) [ inl e ↦ absurd (omega 
 slot-append (x ∷ s) c zero = elim (eqb-cases 0 (suc (length s))) [ inl e ↦ absurd (omega arith) | inr e ↦ rw (e .0) ]
 slot-append (x ∷ s) c (suc i) = slot-append s c i ∙ go (eqb-cases i (length s)) (eqb-cases (suc i) (suc (length s)))
   where
-    go : ((eqb i (length s) ≡ true) × (i ≡ length s)) ⊎ ((eqb i (length s) ≡ false) × (¬ (i ≡ length s)))
-        → ((eqb (suc i) (suc (length s)) ≡ true) × (suc i ≡ suc (length s))) ⊎ ((eqb (suc i) (suc (length s)) ≡ false) × (¬ (suc i ≡ suc (length s))))
+    go : Eqb-cases i (length s)
+        → Eqb-cases (suc i) (suc (length s))
         → put (slotOf s) (length s) c i ≡ put (slotOf (x ∷ s)) (suc (length s)) c (suc i)
     go (inl e) (inl f) = rw (e .0, f .0)
     go (inr e) (inr f) = rw (e .0, f .0)
     go (inl e) (inr f) = absurd (f .1 (ap suc (e .1)))
     go (inr e) (inl f) = absurd (omega arith)
 
--- as functions, so that whole forests can be rewritten
+-- the same of the functions, for rewriting
 pub slots-append : {C : Type 0} (s : List (Option C)) (c : C) → slotOf (s ++ Some c ∷ []) ≡ put (slotOf s) (length s) c
 slots-append s c = fun-ext (slot-append s c)

@@ -9,25 +9,25 @@ use lib.Dec.{eqb, leb, ltb}
 use Rattle.std.specs.declared.option.Option.{Option}
 use Rattle.std.specs.declared.option.Option.the-variants.{Some, None}
 use Rattle.std.proofs.shelf.Tests.{eq-eqb, eqb-true, le-leb, leb-true, ltb-true, and-parts, and-from}
-use Rattle.utreexo.specs.declared.types.Value.{Value}
 use Rattle.utreexo.specs.declared.types.Coin.{Coin}
 use Rattle.utreexo.specs.declared.types.Input.the-variants.{Pair}
+use Rattle.utreexo.specs.declared.types.Value.{Value}
 use Rattle.utreexo.specs.Values.{Image, join}
 use Rattle.utreexo.specs.Forest.{Node, at-node, locate, position}
 use Rattle.utreexo.specs.Claims.{Target, beneath, same-node, covered, target-at, Proof, Claim, spent, given, both, claim-at, claimed, claimed-input, after}
 use Rattle.utreexo.specs.Blocks.{ascends-from, ascending}
 use Rattle.utreexo.specs.Checks.{named}
-use Rattle.laws.proofs.Place.{up}
-use Rattle.laws.proofs.Tree.{mapO}
+use Rattle.laws.proofs.Logic.{never, iff-bool, some-inj}
 use Rattle.laws.proofs.Order.{Mem, From}
-use Rattle.laws.proofs.Claim.{Assertion, target, trust, node, covers, begin, knit, claim, said, asked, after-it}
+use Rattle.laws.proofs.Members.{any-mem, mem-any, first-some, first-mem}
 use Rattle.laws.proofs.Ordered.{from-mem}
+use Rattle.laws.proofs.Place.{up}
+use Rattle.laws.proofs.Places.{up-shr}
+use Rattle.laws.proofs.Tree.{mapO}
+use Rattle.laws.proofs.Claim.{Assertion, target, by-hash, node, covers, leaf-claim, parent-claim, claim, asserted, asserted-input, after-value}
 use Rattle.laws.proofs.Covers.{cover-found, cover-made}
 use Rattle.laws.proofs.Strikes.{inp, img, join-same}
 use Rattle.laws.proofs.Positions.{locate-is}
-use Rattle.laws.proofs.Logic.{never, iff-bool, some-inj}
-use Rattle.laws.proofs.Members.{any-mem, mem-any, first-some, first-mem}
-use Rattle.laws.proofs.Places.{up-shr}
 
 -- one position lies at or beneath another: some rows up it is the other
 pub beneath-up : (d e : Node) → beneath d e ≡ true → (f : ℕ) × (d .row + f ≡ e .row) × (up f (d .place) ≡ e .place)
@@ -66,7 +66,8 @@ module _ (ts : List Target) where
   pub tgt-some : (r o : ℕ) (c : Coin) → tgt ts r o ≡ Some c → (t : Target) × (Mem t ts) × (t .node ≡ at-node r o) × (t .coin ≡ c)
   tgt-some r o c e = go (target-at ts (at-node r o)) refl e
     where
-      go : (z : Option Target) → target-at ts (at-node r o) ≡ z → mapO (λ t. t .coin) z ≡ Some c → (t : Target) × (Mem t ts) × (t .node ≡ at-node r o) × (t .coin ≡ c)
+      go : (z : Option Target) → target-at ts (at-node r o) ≡ z → mapO (λ t. t .coin) z ≡ Some c
+          → (t : Target) × (Mem t ts) × (t .node ≡ at-node r o) × (t .coin ≡ c)
       go None q e = absurd (never c e)
       go (Some t) q e =
           let (m, s) = first-some (λ t. same-node (t .node) (at-node r o)) ts t q in (t, m, node-eq (t .node) (at-node r o) s, some-inj (t .coin) c e)
@@ -101,17 +102,17 @@ module _ (ts : List Target) where
           (subst (λ d. beneath d (at-node r o) ≡ true) (sym q) (up-beneath (at-node (u .row) (u .at)) (at-node r o) (u .rows) (u .sum) (u .above)))
 
 -- a claim of the theory as one of the definitions
-abbrev pub toC : Assertion Coin Value → Claim
-toC (target c) = spent c
-toC (trust v) = given v
-toC (node a b) = both (toC a) (toC b)
+abbrev pub as-claim : Assertion Coin Value → Claim
+as-claim (target c) = spent c
+as-claim (by-hash v) = given v
+as-claim (node a b) = both (as-claim a) (as-claim b)
 
 module _ (p : Proof) where
   -- the claim at each position is the theory's
-  pub claim-is : (r o : ℕ) → claim-at p r o ≡ toC (claim (tgt (p .targets)) (p .hash) r o)
+  pub claim-is : (r o : ℕ) → claim-at p r o ≡ as-claim (claim (tgt (p .targets)) (p .hash) r o)
   claim-is zero o = go (target-at (p .targets) (at-node 0 o))
     where
-      go : (z : Option Target) → elim z [ None ↦ given (p .hash 0 o) | Some t ↦ spent (t .coin) ] ≡ toC (begin (mapO (λ t. t .coin) z) (p .hash 0 o))
+      go : (z : Option Target) → elim z [ None ↦ given (p .hash 0 o) | Some t ↦ spent (t .coin) ] ≡ as-claim (leaf-claim (mapO (λ t. t .coin) z) (p .hash 0 o))
       go None = refl
       go (Some t) = refl
   claim-is (suc r) o = go (target-at (p .targets) (at-node (suc r) o)) refl (claim-is r (2 * o)) (claim-is r (2 * o + 1))
@@ -122,44 +123,50 @@ module _ (p : Proof) where
       K : Assertion Coin Value
       K = claim (tgt (p .targets)) (p .hash) r (2 * o + 1)
 
-      two : (b : Bool) → claim-at p r (2 * o) ≡ toC L → claim-at p r (2 * o + 1) ≡ toC K
-          → elim b [ false ↦ given (p .hash (suc r) o) | true ↦ both (claim-at p r (2 * o)) (claim-at p r (2 * o + 1)) ] ≡ toC (cond b (node L K) (trust (p .hash (suc r) o)))
+      two : (b : Bool) → claim-at p r (2 * o) ≡ as-claim L → claim-at p r (2 * o + 1) ≡ as-claim K
+          → elim b [ false ↦ given (p .hash (suc r) o) | true ↦ both (claim-at p r (2 * o)) (claim-at p r (2 * o + 1)) ]
+          ≡ as-claim (cond b (node L K) (by-hash (p .hash (suc r) o)))
       two false l k = refl
       two true l k = ap₂ (λ x y. both x y) l k
 
-      covers-two : (b : Bool) → covers (cond b (node L K) (trust (p .hash (suc r) o))) ≡ b
+      covers-two : (b : Bool) → covers (cond b (node L K) (by-hash (p .hash (suc r) o))) ≡ b
       covers-two true = refl
       covers-two false = refl
 
-      go : (z : Option Target) → target-at (p .targets) (at-node (suc r) o) ≡ z → claim-at p r (2 * o) ≡ toC L → claim-at p r (2 * o + 1) ≡ toC K
+      go : (z : Option Target) → target-at (p .targets) (at-node (suc r) o) ≡ z → claim-at p r (2 * o) ≡ as-claim L → claim-at p r (2 * o + 1) ≡ as-claim K
           → elim z [
-            | None ↦ (elim (covered (p .targets) (at-node (suc r) o)) [ false ↦ given (p .hash (suc r) o) | true ↦ both (claim-at p r (2 * o)) (claim-at p r (2 * o + 1)) ])
+            | None ↦ (elim (covered (p .targets) (at-node (suc r) o)) [
+              | false ↦ given (p .hash (suc r) o)
+              | true ↦ both (claim-at p r (2 * o)) (claim-at p r (2 * o + 1))
+            ])
             | Some t ↦ spent (t .coin)
           ]
-          ≡ toC (knit (mapO (λ t. t .coin) z) L K (p .hash (suc r) o))
+          ≡ as-claim (parent-claim (mapO (λ t. t .coin) z) L K (p .hash (suc r) o))
       go (Some t) e l k = refl
       go None e l k =
-          let a : covered (p .targets) (at-node (suc r) o) ≡ covers (knit (tgt (p .targets) (suc r) o) L K (p .hash (suc r) o)) = cover-same (p .targets) (p .hash) (suc r) o in
-          let b : covered (p .targets) (at-node (suc r) o) ≡ (covers L || covers K) = a ∙ ap (λ z. covers (knit (mapO (λ t. t .coin) z) L K (p .hash (suc r) o))) e ∙ covers-two (covers L || covers K) in
+          let a : covered (p .targets) (at-node (suc r) o) ≡ covers (parent-claim (tgt (p .targets) (suc r) o) L K (p .hash (suc r) o)) =
+          cover-same (p .targets) (p .hash) (suc r) o in
+          let b : covered (p .targets) (at-node (suc r) o) ≡ (covers L || covers K) =
+          a ∙ ap (λ z. covers (parent-claim (mapO (λ t. t .coin) z) L K (p .hash (suc r) o))) e ∙ covers-two (covers L || covers K) in
           subst (λ w. elim w [ false ↦ given (p .hash (suc r) o) | true ↦ both (claim-at p r (2 * o)) (claim-at p r (2 * o + 1)) ]
-          ≡ toC (cond (covers L || covers K) (node L K) (trust (p .hash (suc r) o)))) (sym b) (two (covers L || covers K) l k)
+          ≡ as-claim (cond (covers L || covers K) (node L K) (by-hash (p .hash (suc r) o)))) (sym b) (two (covers L || covers K) l k)
 
 module _ (image : Image) where
   -- and so are the value claimed, the input claimed and the after-value
-  pub claimed-said : (a : Assertion Coin Value) → claimed image (toC a) ≡ said (img image) a
-  claimed-said (target c) = refl
-  claimed-said (trust v) = refl
-  claimed-said (node a b) = ap₂ (λ x y. image (Pair x y)) (claimed-said a) (claimed-said b)
+  pub claimed-asserted : (a : Assertion Coin Value) → claimed image (as-claim a) ≡ asserted (img image) a
+  claimed-asserted (target c) = refl
+  claimed-asserted (by-hash v) = refl
+  claimed-asserted (node a b) = ap₂ (λ x y. image (Pair x y)) (claimed-asserted a) (claimed-asserted b)
 
-  pub input-asked : (a : Assertion Coin Value) → claimed-input image (toC a) ≡ mapO inp (asked (img image) a)
-  input-asked (target c) = refl
-  input-asked (trust v) = refl
-  input-asked (node a b) = ap₂ (λ x y. Some (Pair x y)) (claimed-said a) (claimed-said b)
+  pub input-asserted : (a : Assertion Coin Value) → claimed-input image (as-claim a) ≡ mapO inp (asserted-input (img image) a)
+  input-asserted (target c) = refl
+  input-asserted (by-hash v) = refl
+  input-asserted (node a b) = ap₂ (λ x y. Some (Pair x y)) (claimed-asserted a) (claimed-asserted b)
 
-  pub after-same : (a : Assertion Coin Value) → after image (toC a) ≡ after-it (img image) a
+  pub after-same : (a : Assertion Coin Value) → after image (as-claim a) ≡ after-value (img image) a
   after-same (target c) = refl
-  after-same (trust v) = refl
-  after-same (node a b) = ap₂ (join image) (after-same a) (after-same b) ∙ join-same image (after-it (img image) a) (after-it (img image) b)
+  after-same (by-hash v) = refl
+  after-same (node a b) = ap₂ (join image) (after-same a) (after-same b) ∙ join-same image (after-value (img image) a) (after-value (img image) b)
 
 -- Targets named by ascending positions have one position each.
 pub ascends-in : (y : ℕ) (zs : List ℕ) → ascends-from y zs ≡ true → From (suc y) zs
@@ -177,6 +184,7 @@ pub record Named (n : ℕ) (ps : List ℕ) (t : Target) : Type 0 where
   pub here : Mem number ps
   pub is : locate n number ≡ Some (t .node)
 
+-- a target that is named has its number among the positions
 pub named-mem : (n : ℕ) (ps : List ℕ) (cs : List Coin) (t : Target) → Mem t (named n ps cs) → Named n ps t
 named-mem n [] cs t m = absurd m
 named-mem n (p ∷ ps) [] t m = absurd m
@@ -191,7 +199,7 @@ named-mem n (p ∷ ps) (c ∷ cs) t m = go (locate n p) refl m (named-mem n ps c
     go (Some e) q (inl w) ih = record { number = p; here = inl refl; is = q ∙ ap (λ t. Some (t .node)) (sym w) }
     go (Some e) q (inr m) ih = later (ih m)
 
--- targets named by numbers that ascend stand at different positions
+-- targets named by numbers that ascend have different positions
 pub named-sole : (n a : ℕ) (ps : List ℕ) (cs : List Coin) → From a ps → Sole (named n ps cs)
 named-sole n a [] cs f t u m k e = absurd m
 named-sole n a (p ∷ ps) [] f t u m k e = absurd m

@@ -1,16 +1,16 @@
--- A position is covered if and only if a target stands at it or beneath it.
+-- A position is covered if and only if a target lies at it or beneath it.
 use mathlib.Core.Path.{_≡_, refl, sym, _∙_, ap, subst}
 use mathlib.Core.Logic.{inl, inr}
-use mathlib.Core.Bool.{true, false, _||_}
+use mathlib.Core.Bool.{true, false}
 use Prim.Native.Nat.{ℕ, zero, suc, _+_, _-_, _*_, _/_}
 use native.Mathlib.Omega.{arith}
 use Rattle.std.specs.declared.option.Option.{Option}
 use Rattle.std.specs.declared.option.Option.the-variants.{Some, None}
-use Rattle.laws.proofs.Place.{up}
-use Rattle.laws.proofs.Claim.{covers, begin, knit, claim}
-use Rattle.laws.proofs.Honest.{cover-kind}
 use Rattle.laws.proofs.Logic.{or-split, true-false, or-true}
+use Rattle.laws.proofs.Place.{up}
 use Rattle.laws.proofs.Places.{by-half, half-even, half-odd, up-suc}
+use Rattle.laws.proofs.Claim.{covers, leaf-claim, parent-claim, claim, Apart, child-covered}
+use Rattle.laws.proofs.Matching.{cover-kind}
 
 module _ {C V : Type 0} (tgt : ℕ → ℕ → Option C) (hash : ℕ → ℕ → V) where
   -- a target covers its own position, and what covers a position covers those above it
@@ -19,10 +19,12 @@ module _ {C V : Type 0} (tgt : ℕ → ℕ → Option C) (hash : ℕ → ℕ →
   cover-here (suc r) o c e = rw e
 
   pub cover-up : (r o : ℕ) → covers (claim tgt hash r o) ≡ true → covers (claim tgt hash (suc r) (o / 2)) ≡ true
-  cover-up r = by-half _ (λ h e. rw half-even (go h (tgt (suc r) h) (rw e))) (λ h e. rw half-odd (go h (tgt (suc r) h) (rw e (or-true (covers (claim tgt hash r (2 * h)))))))
+  cover-up r = by-half _
+      (λ h e. rw half-even (go h (tgt (suc r) h) (rw e)))
+      (λ h e. rw half-odd (go h (tgt (suc r) h) (rw e (or-true (covers (claim tgt hash r (2 * h)))))))
     where
-      go : (h : ℕ) (z : Option C) → (covers (claim tgt hash r (2 * h)) || covers (claim tgt hash r (2 * h + 1))) ≡ true
-          → covers (knit z (claim tgt hash r (2 * h)) (claim tgt hash r (2 * h + 1)) (hash (suc r) h)) ≡ true
+      go : (h : ℕ) (z : Option C) → child-covered tgt hash r h ≡ true
+          → covers (parent-claim z (claim tgt hash r (2 * h)) (claim tgt hash r (2 * h + 1)) (hash (suc r) h)) ≡ true
       go h None e = rw e
       go h (Some c) e = refl
 
@@ -50,7 +52,7 @@ module _ {C V : Type 0} (tgt : ℕ → ℕ → Option C) (hash : ℕ → ℕ →
   pub cover-found : (r o : ℕ) → covers (claim tgt hash r o) ≡ true → Under r o
   cover-found zero o e = go (tgt 0 o) refl e
     where
-      go : (z : Option C) → tgt 0 o ≡ z → covers (begin z (hash 0 o)) ≡ true → Under 0 o
+      go : (z : Option C) → tgt 0 o ≡ z → covers (leaf-claim z (hash 0 o)) ≡ true → Under 0 o
       go None q e = absurd (true-false false e refl)
       go (Some c) q e = record { row = 0; at = o; coin = c; is = q; rows = 0; sum = refl; above = refl }
   cover-found (suc r) o e =
@@ -64,11 +66,19 @@ module _ {C V : Type 0} (tgt : ℕ → ℕ → Option C) (hash : ℕ → ℕ →
     where
       higher : (h : ℕ) → h / 2 ≡ o → Under r h → Under (suc r) o
       higher h q u =
-          record { row = u .row; at = u .at; coin = u .coin; is = u .is; rows = suc (u .rows); sum = omega arith; above = up-suc (u .rows) (u .at) ∙ ap (λ x. x / 2) (u .above) ∙ q }
+          record {
+            row = u .row;
+            at = u .at;
+            coin = u .coin;
+            is = u .is;
+            rows = suc (u .rows);
+            sum = omega arith;
+            above = up-suc (u .rows) (u .at) ∙ ap (λ x. x / 2) (u .above) ∙ q;
+          }
 
-  -- no target stands above another: the form that the proofs use
+  -- where no target lies above another, no covered position lies below a target
   pub apart-of : ((r o r′ e o′ : ℕ) (c c′ : C) → tgt r o ≡ Some c → tgt r′ o′ ≡ Some c′ → r′ + suc e ≡ r → up (suc e) o′ ≡ o → ⊥)
-      → (r o : ℕ) → covers (claim tgt hash r o) ≡ true → tgt (suc r) (o / 2) ≡ None
+      → Apart tgt hash
   apart-of none r o e = go (tgt (suc r) (o / 2)) refl (cover-found r o e)
     where
       go : (z : Option C) → tgt (suc r) (o / 2) ≡ z → Under r o → z ≡ None

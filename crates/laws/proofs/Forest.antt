@@ -1,13 +1,13 @@
 -- A forest of n slots: its trees, the slots that a block spends, and one that is added.
 use mathlib.Core.Path.{_≡_}
-use mathlib.Core.List.{List}
 use mathlib.Core.Bool.{Bool, cond, _&&_}
+use mathlib.Core.List.{List}
 use Prim.Native.Nat.{ℕ, zero, suc, _/_, _%_}
 use lib.Dec.{eqb}
 use lib.ListN.{getD}
+use Rattle.std.specs.Options.{isSome}
 use Rattle.std.specs.declared.option.Option.{Option}
 use Rattle.std.specs.declared.option.Option.the-variants.{Some, None}
-use Rattle.std.specs.Options.{isSome}
 use Rattle.laws.proofs.Place.{up}
 use Rattle.laws.proofs.Tree.{Preimage, struck, place}
 use Rattle.laws.proofs.Claim.{claim, newer}
@@ -17,7 +17,7 @@ pub record Top (n k p : ℕ) : Type 0 where
   pub count : up k n ≡ suc p
   pub even : p % 2 ≡ 0
 
--- The row of the tree over place o of row r, where m whole runs of row r stand. The first number bounds the search.
+-- The row of the tree over place o of row r, where there are m whole runs of row r. The first number bounds the search.
 abbrev pub topRow : ℕ → ℕ → ℕ → ℕ → ℕ
 topRow zero r o m = r
 topRow (suc f) r o m = cond (eqb m (suc o) && eqb (o % 2) 0) r (topRow f (suc r) (o / 2) (m / 2))

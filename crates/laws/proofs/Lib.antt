@@ -1,36 +1,42 @@
-pub mod Claim
-pub mod Forest
-pub mod Order
-pub mod Place
-pub mod Tree
-pub mod Value
-pub mod After
-pub mod Append
-pub mod Block
-pub mod Causes
-pub mod Claiming
-pub mod Count
-pub mod Covers
-pub mod Evidence
-pub mod Fits
-pub mod Genuine
-pub mod Honest
+-- lists and numbers
 pub mod Logic
-pub mod Lone
+pub mod Order
 pub mod Members
-pub mod Needed
-pub mod Ordered
-pub mod Own
-pub mod Packing
-pub mod Path
-pub mod Places
-pub mod Positions
+mod Ordered
 pub mod Ranges
-pub mod Right
+pub mod Place
+pub mod Places
+-- bytes, causes, tests of equality and slots, as the definitions have them
+pub mod Packing
+pub mod Causes
 pub mod Same
 pub mod Slots
-pub mod Standing
-pub mod Laws
-pub mod Strikes
-pub mod Tops
+-- the theory's definitions
+pub mod Tree
+pub mod Value
+pub mod Claim
+pub mod Forest
+-- the theory
 pub mod Where
+pub mod After
+pub mod Append
+mod Evidence
+mod Matching
+mod Covers
+mod Right
+mod Path
+pub mod Tops
+pub mod Block
+-- the link between the definitions and the theory
+pub mod Strikes
+pub mod Positions
+pub mod Claiming
+pub mod Live
+pub mod Own
+pub mod Needed
+pub mod Fits
+pub mod Genuine
+pub mod Lone
+pub mod Count
+-- the laws
+mod Laws

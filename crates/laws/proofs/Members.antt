@@ -11,9 +11,10 @@ use Rattle.std.specs.declared.option.Option.the-variants.{Some, None}
 use Rattle.std.specs.shelf.Lists.{All}
 use Rattle.std.proofs.shelf.Tests.{cases-bool, or-left, or-right}
 use Rattle.utreexo.specs.Lists.{filter, any, first}
-use Rattle.laws.proofs.Order.{Mem}
 use Rattle.laws.proofs.Logic.{true-false, never}
+use Rattle.laws.proofs.Order.{Mem}
 
+-- a member of an append is one of a part, and the other way round
 pub mem-append : {A : Type 0} (xs ys : List A) (z : A) → Mem z (xs ++ ys) → Mem z xs ⊎ Mem z ys
 mem-append [] ys z m = inr m
 mem-append (x ∷ xs) ys z (inl e) = inl (inl e)
@@ -28,6 +29,7 @@ pub append-mem-right : {A : Type 0} (xs ys : List A) (z : A) → Mem z ys → Me
 append-mem-right [] ys z m = m
 append-mem-right (x ∷ xs) ys z m = inr (append-mem-right xs ys z m)
 
+-- members of a mapped list
 pub mem-map : {A B : Type 0} (f : A → B) (xs : List A) (x : A) → Mem x xs → Mem (f x) (map f xs)
 mem-map f [] x m = absurd m
 mem-map f (y ∷ xs) x (inl e) = inl (ap f e)
@@ -38,6 +40,7 @@ map-mem f [] y m = absurd m
 map-mem f (x ∷ xs) y (inl e) = (x, inl refl, e)
 map-mem f (x ∷ xs) y (inr m) = let r = map-mem f xs y m in (r .0, inr (r .1), r .2)
 
+-- what holds of all, and of each member
 pub all-mem : {A : Type 0} (P : A → Type 0) (xs : List A) → ((x : A) → Mem x xs → P x) → All P xs
 all-mem P [] h = tt
 all-mem P (x ∷ xs) h = (h x (inl refl), all-mem P xs (λ y m. h y (inr m)))
@@ -47,6 +50,7 @@ mem-all P [] x a m = absurd m
 mem-all P (y ∷ xs) x a (inl e) = subst P (sym e) (a .0)
 mem-all P (y ∷ xs) x a (inr m) = mem-all P xs x (a .1) m
 
+-- two functions that agree on the members give one list
 pub map-ext : {A B : Type 0} (f g : A → B) (xs : List A) → ((x : A) → Mem x xs → f x ≡ g x) → map f xs ≡ map g xs
 map-ext f g [] e = refl
 map-ext f g (x ∷ xs) e = ap₂ (λ y ys. y ∷ ys) (e x (inl refl)) (map-ext f g xs (λ y m. e y (inr m)))
@@ -101,6 +105,7 @@ module _ {A : Type 0} (p : A → Bool) where
   pub first-only : (xs : List A) (x : A) → Mem x xs → p x ≡ true → ((y : A) → Mem y xs → p y ≡ true → y ≡ x) → first p xs ≡ Some x
   first-only xs x m t u = let (y, e, n, s) = first-mem xs x m t in e ∙ ap (λ z. Some z) (u y n s)
 
+-- members of a filtered list
 pub filter-mem : {A : Type 0} (test : A → Bool) (xs : List A) (z : A) → Mem z (filter test xs) → Mem z xs × (test z ≡ true)
 filter-mem test [] z m = absurd m
 filter-mem {A} test (x ∷ xs) z m = go (test x) refl m (filter-mem test xs z)
@@ -121,6 +126,7 @@ mem-filter {A} test (x ∷ xs) z m t = go (test x) refl m (λ q. mem-filter test
     go false e (inl q) ih = let w : _≡_ {A = Bool} true false = cc in let y : _≡_ {A = ℕ} 0 1 = cc in absurd (omega arith)
     go false e (inr q) ih = ih q
 
+-- two tests that agree on the members; an append
 pub any-ext : {A : Type 0} (p q : A → Bool) (xs : List A) → ((x : A) → Mem x xs → p x ≡ q x) → any p xs ≡ any q xs
 any-ext p q [] f = refl
 any-ext p q (x ∷ xs) f = ap₂ _||_ (f x (inl refl)) (any-ext p q xs (λ y m. f y (inr m)))
@@ -140,6 +146,7 @@ take-mem (suc n) [] x m = absurd m
 take-mem (suc n) (y ∷ xs) x (inl e) = inl e
 take-mem (suc n) (y ∷ xs) x (inr m) = inr (take-mem n xs x m)
 
+-- a filtered append, and a filter that all pass
 pub filter-append : {A : Type 0} (p : A → Bool) (xs ys : List A) → filter p (xs ++ ys) ≡ filter p xs ++ filter p ys
 filter-append p [] ys = refl
 filter-append p (x ∷ xs) ys = ap (λ z. cond (p x) (x ∷ z) z) (filter-append p xs ys) ∙ go (p x)
@@ -152,6 +159,7 @@ pub filter-all : {A : Type 0} (p : A → Bool) (ws : List A) → ((w : A) → Me
 filter-all p [] f = refl
 filter-all p (w ∷ ws) f = ap (λ b. cond b (w ∷ filter p ws) (filter p ws)) (f w (inl refl)) ∙ ap (λ z. w ∷ z) (filter-all p ws (λ x m. f x (inr m)))
 
+-- an element that is present is a member
 pub getD-mem : {A : Type 0} (xs : List (Option A)) (i : ℕ) (c : A) → getD xs i None ≡ Some c → Mem (Some c) xs
 getD-mem [] i c e = absurd (never c e)
 getD-mem (x ∷ xs) zero c e = inl (sym e)

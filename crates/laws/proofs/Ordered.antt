@@ -35,6 +35,7 @@ same-list a b (x ∷ xs) (y ∷ ys) f g i j =
     h : x ≡ y
     h = omega (arith, le x y ys (g .1) (i x (inl refl)), le y x xs (f .1) (j y (inl refl)))
 
+-- from a lower start
 pub from-weaker : (a b : ℕ) (xs : List ℕ) → a ≤ b → From b xs → From a xs
 from-weaker a b [] l f = tt
 from-weaker a b (x ∷ xs) l f = (omega arith, f .1)

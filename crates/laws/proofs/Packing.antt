@@ -2,9 +2,9 @@
 use mathlib.Core.Path.{_≡_, refl, sym, _∙_, ap, ap₂}
 use mathlib.Core.List.{List, [], _∷_, _++_, map, append-assoc, append-nil}
 use Prim.Native.Nat.{ℕ, zero, suc, _+_, _-_, _*_, _/_, _%_, _^_, _≤_, _<_}
-use native.Mathlib.Omega.{arith}
 use native.Mathlib.Nat.{pow-suc, mul-suc, mul-zero}
-use lib.ListN.{length, getD, take, drop, length-append, length-drop, length-map}
+use native.Mathlib.Omega.{arith}
+use lib.ListN.{length, getD, take, drop, length-append, length-drop}
 use lib.Seq.{take-at, take-add, drop-drop, ext-getD, drop-append-add, length-take-le}
 use Rattle.std.specs.shelf.Lists.{All}
 use Rattle.std.proofs.shelf.Elements.{all-take, all-drop, all-getD}
@@ -12,8 +12,9 @@ use Rattle.std.proofs.shelf.Lists.{map-append}
 use Rattle.utreexo.specs.Bytes.{Bytes, number-in, number-bytes, part, Octets}
 use Rattle.utreexo.specs.Lists.{below}
 use Rattle.utreexo.specs.Blocks.{concat}
-use Rattle.laws.proofs.Ranges.{length-below, getD-below}
+use Rattle.laws.proofs.Ranges.{getD-below, length-map-below}
 
+-- the length of a number in k bytes
 pub length-bytes : (k n : ℕ) → length (number-bytes k n) ≡ k
 length-bytes zero n = refl
 length-bytes (suc k) n = ap suc (length-bytes k (n / 256))
@@ -73,19 +74,18 @@ module _ {A : Type 0} (f : A → Bytes) (w : ℕ) (sized : (x : A) → length (f
       → (b pre post : Bytes) (a n : ℕ) → b ≡ pre ++ (concat (map f xs) ++ post) → length pre ≡ a → length xs ≡ n
       → map (λ i. g (part (a + w * i) w b)) (below n) ≡ xs
   unpacked g Ok back d xs ok b pre post a n e l s =
-      ext-getD d (map (λ i. g (part (a + w * i) w b)) (below n)) xs (length-map (below n) (λ i. g (part (a + w * i) w b)) ∙ length-below n ∙ sym s)
-      (λ i h. at i (let q = length-map (below n) (λ i. g (part (a + w * i) w b)) in let q′ = length-below n in omega arith))
+      ext-getD d (map (λ i. g (part (a + w * i) w b)) (below n)) xs (length-map-below (λ i. g (part (a + w * i) w b)) n ∙ sym s)
+      (λ i h. at i (let q = length-map-below (λ i. g (part (a + w * i) w b)) n in omega arith))
     where
       at : (i : ℕ) → i < n → getD (map (λ i. g (part (a + w * i) w b)) (below n)) i d ≡ getD xs i d
       at i h =
-          let z : length (below n) ≡ n = length-below n in
           let q : part (a + w * i) w b ≡ f (getD xs i d) =
           ap (λ z. part (z + w * i) w b) (sym l) ∙ ap (part (length pre + w * i) w) e
           ∙ ap (take w) (drop-append-add pre (concat (map f xs) ++ post) (w * i)) ∙ packed-at xs i d post (omega arith) in
           getD-below (λ i. g (part (a + w * i) w b)) d n i h ∙ ap g q
           ∙ back (getD xs i d) (all-getD Ok xs i d (omega arith) ok)
 
-  -- the entries written back
+  -- the bytes of the entries that are read
   pub repacked : (g : Bytes → A) → ((q : Bytes) → length q ≡ w → Octets q → f (g q) ≡ q)
       → (b : Bytes) → Octets b → (a n : ℕ) → a + w * n ≤ length b
       → concat (map f (map (λ i. g (part (a + w * i) w b)) (below n))) ≡ take (w * n) (drop a b)

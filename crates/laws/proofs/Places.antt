@@ -1,9 +1,9 @@
 -- Places of a row: halves, siblings, the place some rows higher.
 use mathlib.Core.Path.{_≡_, refl, sym, _∙_, ap, subst}
 use Prim.Native.Nat.{ℕ, zero, suc, _+_, _-_, _*_, _/_, _%_, _^_, _≤_, _<_}
-use native.Mathlib.Omega.{arith}
 use native.Mathlib.Nat.{div-one}
 use native.Mathlib.Numerals.{one-add}
+use native.Mathlib.Omega.{arith}
 use lib.Pow.{shr-shr}
 use Rattle.laws.proofs.Place.{up, sib}
 
@@ -50,11 +50,11 @@ by-half P even odd o = go (o % 2) refl
     go (suc b) e = let q : 2 * (o / 2) + 1 ≡ o = omega arith in subst P q (odd (o / 2))
 
 -- a place made from the place above and the low bit
-pub tuck-half : (q o : ℕ) → (2 * q + o % 2) / 2 ≡ q
-tuck-half q o = omega arith
+pub with-bit-half : (q o : ℕ) → (2 * q + o % 2) / 2 ≡ q
+with-bit-half q o = omega arith
 
-pub tuck-mod : (q o : ℕ) → (2 * q + o % 2) % 2 ≡ o % 2
-tuck-mod q o = omega arith
+pub with-bit-mod : (q o : ℕ) → (2 * q + o % 2) % 2 ≡ o % 2
+with-bit-mod q o = omega arith
 
 -- the place some rows higher
 pub up-suc : (f o : ℕ) → up (suc f) o ≡ up f o / 2

@@ -1,25 +1,25 @@
--- The tree over a place and the number of a position, as the definitions compute them.
+-- The tree over a place, and the position of a place, as the definitions compute them.
 use mathlib.Core.Path.{_≡_, refl, sym, _∙_, ap, ap₂, subst}
 use mathlib.Core.Logic.{inl, inr}
 use mathlib.Core.Bool.{Bool, true, false, cond, _&&_}
 use Prim.Native.Nat.{ℕ, zero, suc, _+_, _-_, _*_, _/_, _%_, _^_, _≤_, _<_}
 use native.Mathlib.Nat.{sub-zero}
 use native.Mathlib.Omega.{arith}
-use lib.Pow.{pow-pos, pow-mono}
 use lib.Dec.{eqb, leb, ltb}
+use lib.Pow.{pow-pos, pow-mono}
+use Rattle.std.specs.Options.{isSome}
 use Rattle.std.specs.declared.option.Option.{Option}
 use Rattle.std.specs.declared.option.Option.the-variants.{Some, None}
 use Rattle.std.proofs.shelf.Tests.{eq-eqb, eqb-true, le-leb, leb-true, lt-ltb, le-ltb, and-parts, and-from}
-use Rattle.std.specs.Options.{isSome}
 use Rattle.utreexo.specs.Lists.{below}
 use Rattle.utreexo.specs.Forest.{Node, at-node, bit, tree-place, in-tree, tree-of, least-from, rows, position, row-from, if-inside, locate, tree-row}
-use Rattle.laws.proofs.Place.{up}
-use Rattle.laws.proofs.Forest.{Top}
-use Rattle.laws.proofs.Tops.{Over, top-once, top-low}
 use Rattle.laws.proofs.Logic.{never, eqb-cases, some-inj}
 use Rattle.laws.proofs.Members.{first-some, first-only}
 use Rattle.laws.proofs.Ranges.{below-mem}
+use Rattle.laws.proofs.Place.{up}
 use Rattle.laws.proofs.Places.{up-lt, up-add, up-shr, up-nil}
+use Rattle.laws.proofs.Forest.{Top}
+use Rattle.laws.proofs.Tops.{Over, top-once, top-low}
 
 -- bit k of the count is one: there is a tree of row k
 pub bit-top : (n k : ℕ) → bit n k ≡ true → Top n k (tree-place n k)
@@ -73,6 +73,7 @@ over-tree n r o k l v =
     first-only (in-tree n (at-node r o)) (below 32) k (below-mem 32 k (over-low n r o k l v)) (over-in n r o k v)
     (λ h m e. over-once n r o h k (in-over n r o h e) v)
 
+-- so is the row of the tree of a slot
 pub over-row : (n i k : ℕ) → n < 2 ^ 32 → Over n 0 i k → tree-row n i ≡ k
 over-row n i k l v = let e = over-tree n 0 i k l v in cc
 
@@ -95,6 +96,7 @@ in-rows (suc r) (suc R) o n b l =
     let e : suc R - suc r ≡ R - r = omega arith in
     (omega arith, rw e y)
 
+-- the rows are enough for the count
 least-ok : (fuel k n : ℕ) → n ≤ 2 ^ (k + fuel) → n ≤ 2 ^ least-from fuel k n
 least-ok zero k n l = let e : k + 0 ≡ k = omega arith in rw e at l
 least-ok (suc fuel) k n l = go (leb n (2 ^ k)) refl (least-ok fuel (suc k) n (let e : k + suc fuel ≡ suc k + fuel = omega arith in rw e at l))
@@ -195,22 +197,22 @@ module _ (n : ℕ) (small : n < 2 ^ 32) where
       (ap (λ d. d .row) c, ap (λ d. d .place) c)
 
 -- what a position of the forest numbers
-pub record Found (n p : ℕ) (d : Node) : Type 0 where
+pub record Located (n p : ℕ) (d : Node) : Type 0 where
   pub number : position n (d .row) (d .place) ≡ p
   pub top : ℕ
   pub over : Over n (d .row) (d .place) top
 
 -- and a number that is found is a place's
-pub locate-is : (n p : ℕ) (d : Node) → locate n p ≡ Some d → Found n p d
+pub locate-is : (n p : ℕ) (d : Node) → locate n p ≡ Some d → Located n p d
 locate-is n p d e = go (row-from n p (rows n + 1) 0) refl e
   where
-    fin : (d′ : Node) → row-from n p (rows n + 1) 0 ≡ Some d′ → (z : Option ℕ) → tree-of n d′ ≡ z → cond (isSome z) (Some d′) None ≡ Some d → Found n p d
+    fin : (d′ : Node) → row-from n p (rows n + 1) 0 ≡ Some d′ → (z : Option ℕ) → tree-of n d′ ≡ z → cond (isSome z) (Some d′) None ≡ Some d → Located n p d
     fin d′ q None t e = absurd (never d e)
     fin d′ q (Some k) t e =
         let w : d′ ≡ d = some-inj d′ d e in
-        subst (Found n p) w (record { number = row-is n p (rows n + 1) 0 d′ q; top = k; over = tree-over n (d′ .row) (d′ .place) k t })
+        subst (Located n p) w (record { number = row-is n p (rows n + 1) 0 d′ q; top = k; over = tree-over n (d′ .row) (d′ .place) k t })
 
-    go : (z : Option Node) → row-from n p (rows n + 1) 0 ≡ z → if-inside n z ≡ Some d → Found n p d
+    go : (z : Option Node) → row-from n p (rows n + 1) 0 ≡ z → if-inside n z ≡ Some d → Located n p d
     go None q e = absurd (never d e)
     go (Some d′) q e = fin d′ q (tree-of n d′) refl e
 

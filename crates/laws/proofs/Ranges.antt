@@ -6,12 +6,13 @@ use mathlib.Core.List.{[], _∷_, _++_, map}
 use Prim.Native.Nat.{ℕ, zero, suc, _+_, _-_, _≤_, _<_}
 use native.Mathlib.Omega.{arith}
 use lib.Dec.{eqb}
-use lib.ListN.{length, getD, set}
+use lib.ListN.{length, getD, set, length-map}
 use Rattle.std.proofs.shelf.Tests.{eq-eqb, ne-eqb}
 use Rattle.utreexo.specs.Lists.{below}
 use Rattle.laws.proofs.Order.{Mem, From, range}
 use Rattle.laws.proofs.Members.{map-ext}
 
+-- the members of a range, their order, and its last element
 pub mem-range : (a n z : ℕ) → Mem z (range a n) → (a ≤ z) × (z < a + n)
 mem-range a zero z m = absurd m
 mem-range a (suc n) z (inl e) = (omega arith, omega arith)
@@ -55,6 +56,9 @@ length-range a (suc n) = ap suc (length-range (suc a) n)
 pub length-below : (n : ℕ) → length (below n) ≡ n
 length-below n = ap length (below-range n) ∙ length-range 0 n
 
+pub length-map-below : {A : Type 0} (f : ℕ → A) (n : ℕ) → length (map f (below n)) ≡ n
+length-map-below f n = length-map (below n) f ∙ length-below n
+
 pub getD-range : {A : Type 0} (f : ℕ → A) (d : A) (a n k : ℕ) → k < n → getD (map f (range a n)) k d ≡ f (a + k)
 getD-range f d a zero k l = absurd (omega arith)
 getD-range f d a (suc n) zero l = let e : a + 0 ≡ a = omega arith in rw e
@@ -68,7 +72,8 @@ set-range : {A : Type 0} (f : ℕ → A) (y : A) (a n k : ℕ) → set (map f (r
 set-range f y a zero k = refl
 set-range f y a (suc n) zero =
     ap₂ (λ u v. u ∷ v) (sym (ap (λ b. cond b y (f a)) (eq-eqb a (a + 0) (omega arith))))
-    (sym (map-ext (λ j. cond (eqb j (a + 0)) y (f j)) f (range (suc a) n) (λ j m. let h = mem-range (suc a) n j m in ap (λ b. cond b y (f j)) (ne-eqb j (a + 0) (omega arith)))))
+    (sym (map-ext (λ j. cond (eqb j (a + 0)) y (f j)) f (range (suc a) n)
+    (λ j m. let h = mem-range (suc a) n j m in ap (λ b. cond b y (f j)) (ne-eqb j (a + 0) (omega arith)))))
 set-range f y a (suc n) (suc k) =
     let e : suc a + k ≡ a + suc k = omega arith in
     ap₂ (λ u v. u ∷ v) (sym (ap (λ b. cond b y (f a)) (ne-eqb a (a + suc k) (omega arith))))

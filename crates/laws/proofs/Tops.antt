@@ -1,23 +1,23 @@
--- Each place of a forest stands in one tree, and what a block leaves of each.
+-- Each place of a forest is in one tree; what a block leaves of each tree; and one coin more.
 use mathlib.Core.Path.{_≡_, refl, sym, _∙_, ap}
-use mathlib.Core.Logic.{_⊎_, inl, inr}
+use mathlib.Core.Logic.{inl, inr}
 use mathlib.Core.Bool.{Bool, true, false, cond, _&&_}
 use Prim.Native.Nat.{ℕ, zero, suc, _+_, _-_, _/_, _%_, _≤_, _<_, _^_}
-use native.Mathlib.Omega.{arith}
 use native.Mathlib.Decide.{decLt}
+use native.Mathlib.Omega.{arith}
 use lib.Dec.{eqb}
 use Rattle.std.specs.declared.option.Option.{Option}
 use Rattle.std.specs.declared.option.Option.the-variants.{Some, None}
+use Rattle.laws.proofs.Logic.{eqb-cases, Eqb-cases}
 use Rattle.laws.proofs.Place.{up}
+use Rattle.laws.proofs.Places.{up-suc, up-add, up-lt, up-nil, up-small}
 use Rattle.laws.proofs.Tree.{mapO, Preimage, Tree, coin, grow, struck, depth, place}
 use Rattle.laws.proofs.Value.{blank, prune, valueAt, value}
-use Rattle.laws.proofs.Claim.{covers, claim, after-it, Matches}
+use Rattle.laws.proofs.Claim.{covers, claim, after-value, Matches}
 use Rattle.laws.proofs.Forest.{Top, topRow, treeRow, spends, renew, put}
-use Rattle.laws.proofs.After.{pruneO, grow-blank, value-grow, spent-by, clear, afters}
-use Rattle.laws.proofs.Where.{reaches, rows-split, place-up, coin-there}
+use Rattle.laws.proofs.Where.{above-some, rows-split, place-up, coin-there}
+use Rattle.laws.proofs.After.{pruneO, grow-blank, value-grow, spent-by, clear, after-matches}
 use Rattle.laws.proofs.Append.{grow-same}
-use Rattle.laws.proofs.Logic.{eqb-cases}
-use Rattle.laws.proofs.Places.{up-suc, up-add, up-lt, up-nil, up-small}
 
 -- two trees over one place are one
 pub top-once : (n r o d d′ k k′ p p′ : ℕ) → Top n k p → Top n k′ p′ → d + r ≡ k → up d o ≡ p → d′ + r ≡ k′ → up d′ o ≡ p′ → d < d′ → ⊥
@@ -38,17 +38,19 @@ pub record Over (n r o k : ℕ) : Type 0 where
   pub sum : rows + r ≡ k
   pub top : Top n k (up rows o)
 
+-- the search finds it
 pub top-row : (f r o m n : ℕ) → up r n ≡ m → o < m → m ≤ f → Over n r o (topRow f r o m)
 top-row zero r o m n e l b = absurd (omega arith)
 top-row (suc f) r o m n e l b = go (eqb-cases m (suc o)) (eqb-cases (o % 2) 0) (top-row f (suc r) (o / 2) (m / 2) n (up-suc r n ∙ ap (λ x. x / 2) e))
   where
-    next : (o / 2 < m / 2 → m / 2 ≤ f → Over n (suc r) (o / 2) (topRow f (suc r) (o / 2) (m / 2))) → o / 2 < m / 2 → Over n r o (topRow f (suc r) (o / 2) (m / 2))
+    next : (o / 2 < m / 2 → m / 2 ≤ f → Over n (suc r) (o / 2) (topRow f (suc r) (o / 2) (m / 2)))
+        → o / 2 < m / 2 → Over n r o (topRow f (suc r) (o / 2) (m / 2))
     next ih l′ =
         let v = ih l′ (omega arith) in
         record { rows = suc (v .rows); sum = omega arith; top = v .top }
 
-    go : ((eqb m (suc o) ≡ true) × (m ≡ suc o)) ⊎ ((eqb m (suc o) ≡ false) × (¬ (m ≡ suc o)))
-        → ((eqb (o % 2) 0 ≡ true) × (o % 2 ≡ 0)) ⊎ ((eqb (o % 2) 0 ≡ false) × (¬ (o % 2 ≡ 0)))
+    go : Eqb-cases m (suc o)
+        → Eqb-cases (o % 2) 0
         → (o / 2 < m / 2 → m / 2 ≤ f → Over n (suc r) (o / 2) (topRow f (suc r) (o / 2) (m / 2)))
         → Over n r o (cond (eqb m (suc o) && eqb (o % 2) 0) r (topRow f (suc r) (o / 2) (m / 2)))
     go (inl u) (inl v) ih = rw (u .0, v .0) (record { rows = 0; sum = omega arith; top = record { count = e ∙ u .1; even = v .1 } })
@@ -74,6 +76,7 @@ module _ {C V : Type 0} (image : Preimage C V → V) (slot : ℕ → Option C) (
   abbrev pub remains : ℕ → Option C
   remains = blank (spends slot n tgt) slot
 
+  -- within a tree these are the slots whose own positions are not targets, and so is the value over it
   pub remains-inside : (k p i : ℕ) → Top n k p → up k i ≡ p → remains i ≡ blank (spent-by slot tgt k) slot i
   remains-inside k p i a q = rw (tree-row-is n k p i a q)
 
@@ -83,11 +86,11 @@ module _ {C V : Type 0} (image : Preimage C V → V) (slot : ℕ → Option C) (
       ∙ sym (value-grow image (blank (spent-by slot tgt k) slot) k p)
 
   -- a tree's claim matches if the tree is covered
-  abbrev pub Good : ℕ → ℕ → Type 0
-  Good k p = (t : Tree C) → grow slot k p ≡ Some t → covers (claim tgt hash k p) ≡ true → Matches image (claim tgt hash k p) t
+  abbrev pub Root-matches : ℕ → ℕ → Type 0
+  Root-matches k p = (t : Tree C) → grow slot k p ≡ Some t → covers (claim tgt hash k p) ≡ true → Matches image (claim tgt hash k p) t
 
   -- the root that is left is the renewed one
-  pub root-renewed : (k p : ℕ) → Top n k p → Good k p → valueAt image remains k p ≡ renew image tgt hash k p (valueAt image slot k p)
+  pub root-renewed : (k p : ℕ) → Top n k p → Root-matches k p → valueAt image remains k p ≡ renew image tgt hash k p (valueAt image slot k p)
   root-renewed k p a good =
       value-remains k p a ∙ value-grow image (blank (spent-by slot tgt k) slot) k p ∙ ap (mapO (value image)) (grow-blank (spent-by slot tgt k) slot k p)
       ∙ go (grow slot k p) refl ∙ ap (renew image tgt hash k p) (sym (value-grow image slot k p))
@@ -96,8 +99,9 @@ module _ {C V : Type 0} (image : Preimage C V → V) (slot : ℕ → Option C) (
       go None e = refl
       go (Some t) e = two (covers (claim tgt hash k p)) refl
         where
-          two : (b : Bool) → covers (claim tgt hash k p) ≡ b → mapO (value image) (prune (spent-by slot tgt k) t) ≡ cond b (after-it image (claim tgt hash k p)) (Some (value image t))
-          two true c = sym (afters image slot tgt hash k p t e k 0 p t (omega arith) refl refl (good t e c))
+          two : (b : Bool) → covers (claim tgt hash k p) ≡ b
+              → mapO (value image) (prune (spent-by slot tgt k) t) ≡ cond b (after-value image (claim tgt hash k p)) (Some (value image t))
+          two true c = sym (after-matches image slot tgt hash k p t e k 0 p t (omega arith) refl refl (good t e c))
           two false c = ap (mapO (value image)) (clear image slot tgt hash k p t e k 0 p t (omega arith) refl refl c)
 
 -- one coin appended
@@ -107,7 +111,7 @@ put-below slot n c i l = elim (eqb-cases i n) [ inl e ↦ absurd (omega arith) |
 pub put-here : {C : Type 0} (slot : ℕ → Option C) (n : ℕ) (c : C) → put slot n c n ≡ Some c
 put-here slot n c = elim (eqb-cases n n) [ inl e ↦ rw (e .0) | inr e ↦ absurd (e .1 refl) ]
 
--- two live slots stand at two positions
+-- two live slots have two positions
 pub one-slot : {C : Type 0} (slot : ℕ → Option C) (n k p i k′ p′ i′ : ℕ) (c c′ : C)
     → Top n k p → up k i ≡ p → slot i ≡ Some c → Top n k′ p′ → up k′ i′ ≡ p′ → slot i′ ≡ Some c′
     → struck slot 0 i k ≡ struck slot 0 i′ k′ → place slot 0 i k ≡ place slot 0 i′ k′ → i ≡ i′
@@ -120,18 +124,20 @@ one-slot {C} slot n k p i k′ p′ i′ c c′ a q l a′ q′ l′ e f = same 
     s′ = rows-split slot k′ 0 i′
 
     x : ¬ (depth slot 0 i k < depth slot 0 i′ k′)
-    x = top-once n (struck slot 0 i k) (place slot 0 i k) (depth slot 0 i k) (depth slot 0 i′ k′) k k′ p p′ a a′ (omega (arith, s)) (place-up slot k 0 i ∙ q)
+    x = top-once n (struck slot 0 i k) (place slot 0 i k) (depth slot 0 i k) (depth slot 0 i′ k′) k k′ p p′ a a′
+        (omega (arith, s)) (place-up slot k 0 i ∙ q)
         (omega (arith, s′)) (ap (up (depth slot 0 i′ k′)) f ∙ place-up slot k′ 0 i′ ∙ q′)
 
     y : ¬ (depth slot 0 i′ k′ < depth slot 0 i k)
-    y = top-once n (struck slot 0 i′ k′) (place slot 0 i′ k′) (depth slot 0 i′ k′) (depth slot 0 i k) k′ k p′ p a′ a (omega (arith, s′)) (place-up slot k′ 0 i′ ∙ q′)
+    y = top-once n (struck slot 0 i′ k′) (place slot 0 i′ k′) (depth slot 0 i′ k′) (depth slot 0 i k) k′ k p′ p a′ a
+        (omega (arith, s′)) (place-up slot k′ 0 i′ ∙ q′)
         (omega (arith, s)) (ap (up (depth slot 0 i k)) (sym f) ∙ place-up slot k 0 i ∙ q)
 
     d≡ : depth slot 0 i k ≡ depth slot 0 i′ k′
     d≡ = omega (arith, x, y)
 
     same : depth slot 0 i k ≡ depth slot 0 i′ k′ → i ≡ i′
-    same w = go (reaches slot k 0 i k p (coin i c) (omega arith) q (rw l))
+    same w = go (above-some slot k 0 i k p (coin i c) (omega arith) q (rw l))
       where
         kk : k ≡ k′
         kk = omega (arith, s, s′)
@@ -146,7 +152,7 @@ one-slot {C} slot n k p i k′ p′ i′ c c′ a q l a′ q′ l′ e f = same 
             let v = kk in
             cc
 
--- the trees of fewer than 2 ^ f slots stand in f rows
+-- the trees of fewer than 2 ^ f slots have rows below f
 pub top-low : (n k p f : ℕ) → Top n k p → n < 2 ^ f → k < f
 top-low n k p f top l = elim (decLt k f) [ yes h ↦ h | no h ↦ absurd (go (omega arith)) ]
   where

@@ -1,4 +1,5 @@
--- Runs of slots, the collapsed tree over a run, and where a run's tree stands in a larger one.
+-- Runs of slots, the collapsed tree over a run, and where a run's tree is in a larger one. In a collapsed tree a blank half takes
+-- no room: its sibling has the place of both. The theory's counterparts of definitions have names in camelCase.
 use Prim.Native.Nat.{ℕ, zero, suc, _+_, _*_, _/_, _%_}
 use Rattle.std.specs.declared.option.Option.{Option}
 use Rattle.std.specs.declared.option.Option.the-variants.{Some, None}
@@ -14,7 +15,7 @@ pub data Preimage (Coin Value : Type 0) : Type 0 where
   of-coin : Coin → Preimage Coin Value
   of-two : Value → Value → Preimage Coin Value
 
--- the slot's number stands beside its coin
+-- a leaf has its slot's number beside its coin
 pub data Tree (Coin : Type 0) : Type 0 where
   coin : ℕ → Coin → Tree Coin
   fork : Tree Coin → Tree Coin → Tree Coin
@@ -37,33 +38,38 @@ child b (Some (coin i c)) = None
 child zero (Some (fork x y)) = Some x
 child (suc b) (Some (fork x y)) = Some y
 
--- what stands d rows below the top of t, at place o of that row
+-- the subtree d rows below the top of t, at place o of that row
 abbrev pub subtree : {C : Type 0} → Tree C → ℕ → ℕ → Option (Tree C)
 subtree t zero o = Some t
 subtree t (suc d) o = child (o % 2) (subtree t d (o / 2))
 
+-- the same where there may be no tree
+abbrev pub subtreeO : {C : Type 0} → Option (Tree C) → ℕ → ℕ → Option (Tree C)
+subtreeO None d o = None
+subtreeO (Some t) d o = subtree t d o
+
 -- Of the run (j, o), f rows below the top: how many bits above it are struck out, how many are
 -- not, and the place with the struck bits closed up. A bit is struck out where the sibling is blank.
-abbrev pub skip : {A : Type 0} → Option A → ℕ → ℕ
-skip None n = suc n
-skip (Some _) n = n
+abbrev pub count-struck : {A : Type 0} → Option A → ℕ → ℕ
+count-struck None n = suc n
+count-struck (Some _) n = n
 
-abbrev pub bump : {A : Type 0} → Option A → ℕ → ℕ
-bump None n = n
-bump (Some _) n = suc n
+abbrev pub count-kept : {A : Type 0} → Option A → ℕ → ℕ
+count-kept None n = n
+count-kept (Some _) n = suc n
 
-abbrev pub tuck : {A : Type 0} → Option A → ℕ → ℕ → ℕ
-tuck None q b = q
-tuck (Some _) q b = 2 * q + b
+abbrev pub with-bit : {A : Type 0} → Option A → ℕ → ℕ → ℕ
+with-bit None q b = q
+with-bit (Some _) q b = 2 * q + b
 
 abbrev pub struck : {C : Type 0} → (ℕ → Option C) → ℕ → ℕ → ℕ → ℕ
 struck slot j o zero = 0
-struck slot j o (suc f) = skip (grow slot j (sib o)) (struck slot (suc j) (o / 2) f)
+struck slot j o (suc f) = count-struck (grow slot j (sib o)) (struck slot (suc j) (o / 2) f)
 
 abbrev pub depth : {C : Type 0} → (ℕ → Option C) → ℕ → ℕ → ℕ → ℕ
 depth slot j o zero = 0
-depth slot j o (suc f) = bump (grow slot j (sib o)) (depth slot (suc j) (o / 2) f)
+depth slot j o (suc f) = count-kept (grow slot j (sib o)) (depth slot (suc j) (o / 2) f)
 
 abbrev pub place : {C : Type 0} → (ℕ → Option C) → ℕ → ℕ → ℕ → ℕ
 place slot j o zero = o
-place slot j o (suc f) = tuck (grow slot j (sib o)) (place slot (suc j) (o / 2) f) (o % 2)
+place slot j o (suc f) = with-bit (grow slot j (sib o)) (place slot (suc j) (o / 2) f) (o % 2)

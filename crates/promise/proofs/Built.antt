@@ -24,19 +24,20 @@ built image [] = []
 built image (b ∷ bs) = slots-after image b (built image bs)
 
 -- each mark is the state before one of the newest blocks
-abbrev pub Marks : {M : Type 0} → (M → Bytes → List Bytes → Type 0) → List M → List Bytes → Type 0
+abbrev Marks : {M : Type 0} → (M → Bytes → List Bytes → Type 0) → List M → List Bytes → Type 0
 Marks P [] bs = Unit {0}
 Marks P (m ∷ ms) [] = ⊥
 Marks P (m ∷ ms) (b ∷ bs) = P m b bs × Marks P ms bs
 
-pub marks-take : {M : Type 0} (P : M → Bytes → List Bytes → Type 0) (n : ℕ) (ms : List M) (bs : List Bytes) → Marks P ms bs → Marks P (take n ms) bs
+-- the newest so many of them
+marks-take : {M : Type 0} (P : M → Bytes → List Bytes → Type 0) (n : ℕ) (ms : List M) (bs : List Bytes) → Marks P ms bs → Marks P (take n ms) bs
 marks-take P zero ms bs h = tt
 marks-take P (suc n) [] bs h = tt
 marks-take P (suc n) (m ∷ ms) [] h = h
 marks-take P (suc n) (m ∷ ms) (b ∷ bs) h = (h .0, marks-take P n ms bs (h .1))
 
 module _ (image : Image) where
-  abbrev pub Before : Collection → Bytes → List Bytes → Type 0
+  abbrev Before : Collection → Bytes → List Bytes → Type 0
   Before m b bs = m .slots ≡ built image bs
 
   -- slots and marks of a register are made by these standing blocks
@@ -54,7 +55,7 @@ module _ (image : Image) where
   when-same r q bs (Some n) k l = k
 
   -- each call keeps it so
-  pub step-made : (c : Call) (r : Register) (bs : List Bytes) → Made r bs → Made (register-step image c r .state) (stand c (register-step image c r .answer) bs)
+  step-made : (c : Call) (r : Register) (bs : List Bytes) → Made r bs → Made (register-step image c r .state) (stand c (register-step image c r .answer) bs)
   step-made (take-block b) r bs k =
       when-take b r _ bs (refusal (register-take-causes image (r .current .slots) b)) k
       (record { now = ap (slots-after image b) (k .now); history = marks-take Before (r .room) (r .current ∷ r .marks) (b ∷ bs) (k .now, k .history) })
@@ -67,70 +68,73 @@ module _ (image : Image) where
   step-made (show p out) r bs k = k
   step-made take-back r bs k = go (r .marks) refl (k .history)
     where
-      go : (ms : List Collection) → r .marks ≡ ms → Marks Before ms bs → Made (register-step image take-back r .state) (stand take-back (register-step image take-back r .answer) bs)
+      go : (ms : List Collection) → r .marks ≡ ms → Marks Before ms bs
+          → Made (register-step image take-back r .state) (stand take-back (register-step image take-back r .answer) bs)
       go [] e h = rw e (record { now = k .now; history = tt })
       go (m ∷ ms) e h = rw e (back m ms bs h)
         where
-          back : (m : Collection) (ms : List Collection) (bs : List Bytes) → Marks Before (m ∷ ms) bs → Made (record { room = r .room; current = m; marks = ms }) (drop 1 bs)
+          back : (m : Collection) (ms : List Collection) (bs : List Bytes) → Marks Before (m ∷ ms) bs
+              → Made (record { room = r .room; current = m; marks = ms }) (drop 1 bs)
           back m ms [] h = absurd h
           back m ms (b ∷ bs) h = record { now = h .0; history = h .1 }
 
   -- and a run
-  pub run-made : (calls : List Call) (r : Register) (bs : List Bytes) → Made r bs
+  run-made : (calls : List Call) (r : Register) (bs : List Bytes) → Made r bs
       → Made (run (register-step image) r calls .state) (standing calls (run (register-step image) r calls .answers) bs)
   run-made [] r bs k = k
   run-made (c ∷ cs) r bs k = run-made cs (register-step image c r .state) (stand c (register-step image c r .answer) bs) (step-made c r bs k)
 
   -- the slots of a register are those that its standing blocks make
-  pub register-slots : (places : ℕ) (calls : List Call)
+  register-slots : (places : ℕ) (calls : List Call)
       → register-run image places calls .state .current .slots ≡ built image (standing calls (register-run image places calls .answers) [])
   register-slots places calls = run-made calls _ [] (record { now = refl; history = tt }) .now
 
   -- the bridge
-  abbrev pub Undoes : Undo → Bytes → List Bytes → Type 0
+  abbrev Undoes : Undo → Bytes → List Bytes → Type 0
   Undoes m b bs = m ≡ undo-of image (built image bs) b
 
   -- the same of a bridge
-  pub record Held-by (g : Bridge) (bs : List Bytes) : Type 0 where
+  pub record Bridge-made (g : Bridge) (bs : List Bytes) : Type 0 where
     pub now : g .slots ≡ built image bs
     pub history : Marks Undoes (g .marks) bs
 
   -- each call of the bridge keeps it so
-  pub bridge-kept : (c : Bridge-call) (g : Bridge) (bs : List Bytes) → Held-by g bs
-      → Held-by (bridge-step image c g .state) (stand (as-call c) (bridge-step image c g .answer) bs)
-  bridge-kept (bridge-take b) g bs k = go (refusal (bridge-take-causes image (g .capacity) (g .slots) b))
+  bridge-made : (c : Bridge-call) (g : Bridge) (bs : List Bytes) → Bridge-made g bs
+      → Bridge-made (bridge-step image c g .state) (stand (as-call c) (bridge-step image c g .answer) bs)
+  bridge-made (bridge-take b) g bs k = go (refusal (bridge-take-causes image (g .capacity) (g .slots) b))
     where
       q : Bridge
       q = record { capacity = g .capacity; slots = slots-after image b (g .slots); marks = push 64 (undo-of image (g .slots) b) (g .marks) }
 
-      go : (d : Option ℕ) → Held-by (when-granted d q g .state) (stand (take-block b) (when-granted d q g .answer) bs)
+      go : (d : Option ℕ) → Bridge-made (when-granted d q g .state) (stand (take-block b) (when-granted d q g .answer) bs)
       go None = record {
         now = ap (slots-after image b) (k .now);
         history = marks-take Undoes 64 (undo-of image (g .slots) b ∷ g .marks) (b ∷ bs) (ap (λ s. undo-of image s b) (k .now), k .history);
       }
       go (Some n) = k
-  bridge-kept bridge-take-back g bs k = go (g .marks) refl (k .history)
+  bridge-made bridge-take-back g bs k = go (g .marks) refl (k .history)
     where
       go : (ms : List Undo) → g .marks ≡ ms → Marks Undoes ms bs
-          → Held-by (bridge-step image bridge-take-back g .state) (stand take-back (bridge-step image bridge-take-back g .answer) bs)
+          → Bridge-made (bridge-step image bridge-take-back g .state) (stand take-back (bridge-step image bridge-take-back g .answer) bs)
       go [] e h = rw e (record { now = k .now; history = tt })
       go (m ∷ ms) e h = rw e (back bs (k .now) h)
         where
           back : (bs : List Bytes) → g .slots ≡ built image bs → Marks Undoes (m ∷ ms) bs
-              → Held-by (record { capacity = g .capacity; slots = undone m (g .slots); marks = ms }) (drop 1 bs)
+              → Bridge-made (record { capacity = g .capacity; slots = undone m (g .slots); marks = ms }) (drop 1 bs)
           back [] n h = absurd h
           back (b ∷ bs) n h = record { now = ap₂ undone (h .0) n ∙ undone-after image (built image bs) b; history = h .1 }
 
   -- and a run
-  pub bridge-run-kept : (calls : List Bridge-call) (g : Bridge) (bs : List Bytes) → Held-by g bs
-      → Held-by (run (bridge-step image) g calls .state) (standing (map as-call calls) (run (bridge-step image) g calls .answers) bs)
-  bridge-run-kept [] g bs k = k
-  bridge-run-kept (c ∷ cs) g bs k = bridge-run-kept cs (bridge-step image c g .state) (stand (as-call c) (bridge-step image c g .answer) bs) (bridge-kept c g bs k)
+  bridge-run-made : (calls : List Bridge-call) (g : Bridge) (bs : List Bytes) → Bridge-made g bs
+      → Bridge-made (run (bridge-step image) g calls .state) (standing (map as-call calls) (run (bridge-step image) g calls .answers) bs)
+  bridge-run-made [] g bs k = k
+  bridge-run-made (c ∷ cs) g bs k =
+      bridge-run-made cs (bridge-step image c g .state) (stand (as-call c) (bridge-step image c g .answer) bs) (bridge-made c g bs k)
 
   -- the slots of a bridge are those that its standing blocks make
   pub bridge-slots : (capacity : ℕ) (fed : List Bridge-call)
       → bridge-run image capacity fed .state .slots ≡ built image (standing (map as-call fed) (bridge-run image capacity fed .answers) [])
-  bridge-slots capacity fed = bridge-run-kept fed _ [] (record { now = refl; history = tt }) .now
+  bridge-slots capacity fed = bridge-run-made fed _ [] (record { now = refl; history = tt }) .now
 
   -- so with the same standing blocks they are the same
   pub same-slots : (places : ℕ) (calls : List Call) (capacity : ℕ) (fed : List Bridge-call)

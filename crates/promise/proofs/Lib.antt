@@ -1,24 +1,30 @@
-pub mod Adding
-pub mod Built
-pub mod Cards
-pub mod Carrying
-pub mod Caught
-pub mod Composed
-pub mod Naming
-pub mod Octets
-pub mod Outcomes
-pub mod Promise
-pub mod Refreshing
-pub mod Runs
-pub mod Served
-pub mod Shelves
-pub mod Spending
-pub mod Stages
-pub mod Steps
-pub mod Taking
-pub mod Undone
-pub mod Visiting
-pub mod Wants
-pub mod Watching
-pub mod Words
-pub mod Written
+-- answers
+mod Outcomes
+-- the simulation: a wallet follows a register, or the block is caught
+mod Adding
+mod Stages
+mod Carrying
+mod Spending
+mod Refreshing
+mod Shelves
+mod Visiting
+mod Caught
+mod Taking
+mod Watching
+mod Steps
+-- runs
+mod Runs
+-- blocks as bytes
+mod Composed
+mod Octets
+-- what a bridge serves
+mod Undone
+mod Built
+mod Words
+mod Naming
+mod Writing
+mod Cards
+mod Served
+mod Hypotheses
+-- the whole promise
+mod Promise

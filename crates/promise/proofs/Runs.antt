@@ -16,22 +16,24 @@ use Rattle.utreexo.specs.Collection.{challenge, Verdict, unjudged, stands, diff
 use Rattle.utreexo.specs.Register.{Register, new-register, register-step}
 use Rattle.utreexo.specs.Promise.{run, wallet-run, register-run, Agreed, block-of, Evidence, Caught-at, Follows, Caught}
 use Rattle.promise.specs.Theorems.{Parting}
-use Rattle.promise.proofs.Steps.{Kept, follows, judged, shadow}
 use Rattle.promise.proofs.Outcomes.{answers-or}
+use Rattle.promise.proofs.Steps.{Kept, follows, judged, wallet-of}
 
 module _ (image : Image) where
+  -- two lists of answers that are one
   head-same : (a b : Answer) (xs ys : List Answer) → a ∷ xs ≡ b ∷ ys → (a ≡ b) × (xs ≡ ys)
   head-same a b xs ys e = (cc, cc)
 
-  -- one call of a wallet that is the register's shadow
-  pub call-kept : (w : Wallet) (r : Register) → Kept image w r → (c : Call) → wallet-step image c w .answer ≡ register-step image c r .answer
+  -- one call of a wallet that has what the register has
+  call-kept : (w : Wallet) (r : Register) → Kept image w r → (c : Call) → wallet-step image c w .answer ≡ register-step image c r .answer
       → Kept image (wallet-step image c w .state) (register-step image c r .state)
   call-kept w r k c e =
       subst (λ w. Kept image (wallet-step image c w .state) (register-step image c r .state)) (sym (k .same))
       (follows image r (k .sound) c (ap (λ w. wallet-step image c w .answer) (sym (k .same)) ∙ e))
 
   -- and a run of calls
-  pub runs-kept : (calls : List Call) (w : Wallet) (r : Register) → Kept image w r → run (wallet-step image) w calls .answers ≡ run (register-step image) r calls .answers
+  runs-kept : (calls : List Call) (w : Wallet) (r : Register) → Kept image w r
+      → run (wallet-step image) w calls .answers ≡ run (register-step image) r calls .answers
       → Kept image (run (wallet-step image) w calls .state) (run (register-step image) r calls .state)
   runs-kept [] w r k e = k
   runs-kept (c ∷ cs) w r k e =
@@ -39,13 +41,14 @@ module _ (image : Image) where
       (run (wallet-step image) (wallet-step image c w .state) cs .answers) (run (register-step image) (register-step image c r .state) cs .answers) e in
       runs-kept cs (wallet-step image c w .state) (register-step image c r .state) (call-kept w r k c h) t
 
-  -- a new wallet is the shadow of a new register
-  pub new-kept : (places : ℕ) → Kept image (new-wallet places) (new-register places)
+  -- a new wallet has what a new register has
+  new-kept : (places : ℕ) → Kept image (new-wallet places) (new-register places)
   new-kept places =
       record { same = refl; sound = record { now = record { small = omega arith; live = λ w m. absurd m; once = tt }; past = λ p m. absurd m } }
 
   -- so after any run that agreed
-  pub run-kept : (places : ℕ) (calls : List Call) → Agreed image places calls → Kept image (wallet-run image places calls .state) (register-run image places calls .state)
+  pub run-kept : (places : ℕ) (calls : List Call) → Agreed image places calls
+      → Kept image (wallet-run image places calls .state) (register-run image places calls .state)
   run-kept places calls e = runs-kept calls (new-wallet places) (new-register places) (new-kept places) e
 
   -- while every answer has been the register's, the wallet sees what the register has
@@ -53,7 +56,7 @@ module _ (image : Image) where
   wallet-follows places calls e = ap (λ w. w .view) (run-kept places calls e .same)
 
   -- a call after such a run: the answer is the register's, or the block is caught
-  pub call-judged : (places : ℕ) (calls : List Call) (c : Call) → Agreed image places calls
+  call-judged : (places : ℕ) (calls : List Call) (c : Call) → Agreed image places calls
       → (wallet-step image c (wallet-run image places calls .state) .answer ≡ register-step image c (register-run image places calls .state) .answer)
       ⊎ Caught-at image (register-run image places calls .state .current .slots) (block-of c)
   call-judged places calls c e =
@@ -72,8 +75,10 @@ module _ (image : Image) where
       ]
 
   -- any run: every answer is the register's, or a call after some that agreed is caught
-  pub judged-from : (calls : List Call) (w : Wallet) (r : Register) → Kept image w r
-      → (run (wallet-step image) w calls .answers ≡ run (register-step image) r calls .answers) ⊎ Parting image w r calls
+  abbrev Judged : Wallet → Register → List Call → Type 0
+  Judged w r calls = (run (wallet-step image) w calls .answers ≡ run (register-step image) r calls .answers) ⊎ Parting image w r calls
+
+  judged-from : (calls : List Call) (w : Wallet) (r : Register) → Kept image w r → Judged w r calls
   judged-from [] w r k = inl refl
   judged-from (c ∷ cs) w r k =
       elim (answers-or (wallet-step image c w .answer) (register-step image c r .answer)) [
@@ -82,13 +87,13 @@ module _ (image : Image) where
       ]
     where
       first : (wallet-step image c w .answer ≢ register-step image c r .answer)
-          → (wallet-step image c (shadow image r) .answer ≡ register-step image c r .answer) ⊎ Caught-at image (r .current .slots) (block-of c) → Caught-at image (r .current .slots) (block-of c)
+          → (wallet-step image c (wallet-of image r) .answer ≡ register-step image c r .answer) ⊎ Caught-at image (r .current .slots) (block-of c)
+          → Caught-at image (r .current .slots) (block-of c)
       first n (inl q) = absurd (n (ap (λ w. wallet-step image c w .answer) (k .same) ∙ q))
       first n (inr q) = q
 
       here : wallet-step image c w .answer ≡ register-step image c r .answer
-          → (run (wallet-step image) (wallet-step image c w .state) cs .answers ≡ run (register-step image) (register-step image c r .state) cs .answers) ⊎ Parting image (wallet-step image c w .state) (register-step image c r .state) cs
-          → (run (wallet-step image) w (c ∷ cs) .answers ≡ run (register-step image) r (c ∷ cs) .answers) ⊎ Parting image w r (c ∷ cs)
+          → Judged (wallet-step image c w .state) (register-step image c r .state) cs → Judged w r (c ∷ cs)
       here q (inl t) = inl (ap₂ (λ a xs. a ∷ xs) q t)
       here q (inr p) =
           inr (record {
@@ -101,6 +106,7 @@ module _ (image : Image) where
             caught = p .caught;
           })
 
+  -- so of a new wallet and a new register
   pub run-judged : (places : ℕ) (calls : List Call) → Agreed image places calls ⊎ Parting image (new-wallet places) (new-register places) calls
   run-judged places calls = judged-from calls (new-wallet places) (new-register places) (new-kept places)
 

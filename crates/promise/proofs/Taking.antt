@@ -1,7 +1,7 @@
 -- A block taken: the wallet's view follows the register's, and the two answers agree or the block is caught.
 use mathlib.Core.Path.{_≡_, refl, sym, _∙_, ap, ap₂}
 use mathlib.Core.Logic.{_⊎_, inl, inr}
-use mathlib.Core.Bool.{true, false, cond, not}
+use mathlib.Core.Bool.{true, cond, not}
 use mathlib.Core.List.{List, [], _∷_, map}
 use Prim.Native.Nat.{ℕ, _+_, _-_, _^_, _<_}
 use native.Mathlib.Omega.{arith}
@@ -13,24 +13,24 @@ use Rattle.utreexo.specs.declared.types.Coin.{Coin}
 use Rattle.utreexo.specs.Bytes.{Bytes}
 use Rattle.utreexo.specs.Lists.{filter}
 use Rattle.utreexo.specs.Values.{Image}
-use Rattle.utreexo.specs.Forest.{Slots, roots-of}
-use Rattle.utreexo.specs.Claims.{Target, fits}
+use Rattle.utreexo.specs.Forest.{Slots}
+use Rattle.utreexo.specs.Claims.{Target}
 use Rattle.utreexo.specs.Blocks.{entries}
-use Rattle.utreexo.specs.Checks.{Cause, cause, refusal, most-slots, targets-of, block-proof}
-use Rattle.utreexo.specs.Wallet.{View, spend, add-all, view-after, take-causes}
-use Rattle.utreexo.specs.Collection.{view-of, genuine, target-live, fresh, spent-slot, slots-after}
+use Rattle.utreexo.specs.Checks.{Cause, cause, refusal, most-slots, targets-of}
+use Rattle.utreexo.specs.Wallet.{spend, add-all, view-after, take-causes}
+use Rattle.utreexo.specs.Collection.{view-of, genuine, spent-slot, slots-after}
 use Rattle.utreexo.specs.Register.{Collection, register-take-causes}
-use Rattle.laws.proofs.Order.{Mem}
-use Rattle.laws.proofs.Members.{filter-mem, mem-all}
 use Rattle.laws.proofs.Logic.{true-false}
+use Rattle.laws.proofs.Members.{filter-mem, mem-all}
+use Rattle.laws.proofs.Causes.{Free, free, freed, free-left, refusals, free-right}
 use Rattle.laws.proofs.Slots.{slot-low, left, length-left, Lives, left-at}
-use Rattle.laws.proofs.Causes.{Free, free, freed, free-left, denials}
+use Rattle.laws.proofs.Genuine.{Right-proof}
 use Rattle.promise.specs.Theorems.{Blocks-step}
-use Rattle.promise.proofs.Spending.{roots-left}
 use Rattle.promise.proofs.Carrying.{added-all}
-use Rattle.promise.proofs.Shelves.{Once, once-filter}
-use Rattle.promise.proofs.Caught.{early, Placed, early-placed, genuine-right, genuine-fits}
+use Rattle.promise.proofs.Spending.{roots-left}
 use Rattle.promise.proofs.Refreshing.{shelf-left}
+use Rattle.promise.proofs.Shelves.{Once, once-filter}
+use Rattle.promise.proofs.Caught.{early, fitting, Fits-not-genuine, Passed, early-passed, genuine-right, genuine-fits}
 
 -- what holds of the register's slots and watched slots at all times
 pub record Sound (p : Collection) : Type 0 where
@@ -38,71 +38,75 @@ pub record Sound (p : Collection) : Type 0 where
   pub live : Lives (p .slots) (p .watched)
   pub once : Once (p .watched)
 
-abbrev pub pairOf : Slots → List ℕ → Collection
-pairOf s ws = record { slots = s; watched = ws }
+-- slots and watched slots, as the register has them
+abbrev pub collection : Slots → List ℕ → Collection
+collection s ws = record { slots = s; watched = ws }
 
 module _ (image : Image) (s : Slots) (ws : List ℕ) (bs : Bytes) (small : length s < 2 ^ 32) (live : Lives s ws) where
-  abbrev aims : List Target
-  aims = targets-of (length s) (entries bs)
+  abbrev ts : List Target
+  ts = targets-of (length s) (entries bs)
 
   -- the watched slots that a block does not spend
-  abbrev pub remaining : List ℕ
-  remaining = filter (λ w. not (spent-slot image s aims w)) ws
+  abbrev remaining : List ℕ
+  remaining = filter (λ w. not (spent-slot image s ts w)) ws
 
   abbrev late : List Cause
   late = cause 11 (ltb most-slots (length s + length (entries bs .coins))) ∷ []
 
   module _ (granted : refusal (register-take-causes image s bs) ≡ None) where
-    f : Free (register-take-causes image s bs)
-    f = free (register-take-causes image s bs) granted
+    -- no cause holds: neither before the proof is tried, nor from there on
+    abbrev from-proof : List Cause
+    from-proof = cause 10 (not (genuine image s (entries bs))) ∷ late
 
-    real : genuine image s (entries bs) ≡ true
-    real = not-false (genuine image s (entries bs)) (f .1 .1 .1 .1 .1 .1 .1 .1 .0)
+    none-early : Free (early image s bs)
+    none-early = free-left (early image s bs) from-proof (free (register-take-causes image s bs) granted)
+
+    none-late : Free from-proof
+    none-late = free-right (early image s bs) from-proof (free (register-take-causes image s bs) granted)
+
+    is-genuine : genuine image s (entries bs) ≡ true
+    is-genuine = not-false (genuine image s (entries bs)) (none-late .0)
 
     room : length s + length (entries bs .coins) < 2 ^ 32
-    room = let b = ltb-false most-slots (length s + length (entries bs .coins)) (f .1 .1 .1 .1 .1 .1 .1 .1 .1 .0) in omega arith
+    room = let b = ltb-false most-slots (length s + length (entries bs .coins)) (none-late .1 .0) in omega arith
 
-    a : Placed image s bs
-    a = early-placed image s bs (freed (early image s bs) (free-left (early image s bs) (cause 10 (not (genuine image s (entries bs))) ∷ late) f))
+    passed : Passed image s bs
+    passed = early-passed image s bs (freed (early image s bs) none-early)
 
-    right : (t : Target) → Mem t aims → target-live image s t ≡ true
-    right = genuine-right image s bs small a real .0
+    right : Right-proof image s ts (entries bs .hashes)
+    right = genuine-right image s bs small passed is-genuine
 
-    new : entries bs .hashes ≡ fresh image s aims
-    new = genuine-right image s bs small a real .1
-
+    -- the slots that are left
     abbrev rest : Slots
-    rest = left image s aims
+    rest = left image s ts
 
+    -- the view once the targets are spent, before coins are added
     spent-view : spend image (entries bs) (view-of image s ws) ≡ view-of image rest remaining
     spent-view =
-        let l = length-left image s aims in
-        let r = roots-left image s small aims (entries bs .hashes) (a .sole) (a .alone) (a .within) right new in
-        let h = shelf-left image s small aims (entries bs .hashes) (a .sole) (a .alone) (a .within) right new ws live in
+        let l = length-left image s ts in
+        let r = roots-left image s small ts (entries bs .hashes) (passed .placed) right in
+        let h = shelf-left image s small ts (entries bs .hashes) (passed .placed) right ws live in
         λ i. record { count = sym l i; roots = r i; shelf = h i }
 
     rest-live : Lives rest remaining
     rest-live w m =
-        let (x, y) = filter-mem (λ w. not (spent-slot image s aims w)) ws w m in
+        let (x, y) = filter-mem (λ w. not (spent-slot image s ts w)) ws w m in
         let (c, e) = live w x in
-        let f = not-true (spent-slot image s aims w) y in
-        (c, left-at image s aims w (slot-low s w c e) ∙ ap₂ (λ b z. cond b None z) f e)
+        let f = not-true (spent-slot image s ts w) y in
+        (c, left-at image s ts w (slot-low s w c e) ∙ ap₂ (λ b z. cond b None z) f e)
 
     rest-room : length rest + length (entries bs .coins) < 2 ^ 32
     rest-room =
-        let l = length-left image s aims in
+        let l = length-left image s ts in
         let r = room in
         omega arith
 
     -- the view after the block is that of the slots after it
     pub taken-view : view-after image bs (view-of image s ws) ≡ view-of image (slots-after image bs s) remaining
-    taken-view = ap (λ v. add-all-of v) spent-view ∙ added-all image (entries bs .coins) rest remaining rest-room rest-live
-      where
-        add-all-of : View → View
-        add-all-of v = add-all image v (entries bs .coins)
+    taken-view = ap (λ v. add-all image v (entries bs .coins)) spent-view ∙ added-all image (entries bs .coins) rest remaining rest-room rest-live
 
     -- and they are sound
-    pub taken-sound : Once ws → Sound (pairOf (slots-after image bs s) remaining)
+    pub taken-sound : Once ws → Sound (collection (slots-after image bs s) remaining)
     taken-sound once =
         let l = length-append rest (map (λ c. Some c) (entries bs .coins)) in
         let m = length-map (entries bs .coins) (λ c. Some c) in
@@ -110,22 +114,22 @@ module _ (image : Image) (s : Slots) (ws : List ℕ) (bs : Bytes) (small : lengt
         record {
           small = omega arith;
           live = λ w m. (let (c, e) = rest-live w m in (c, List·getD-append rest (map (λ c. Some c) (entries bs .coins)) None w (slot-low rest w c e) ∙ e));
-          once = once-filter (λ w. not (spent-slot image s aims w)) ws once;
+          once = once-filter (λ w. not (spent-slot image s ts w)) ws once;
         }
 
-  -- taking and checking: the two denials agree, or the block is caught
+  -- taking and checking: wallet and register refuse alike, or the block fits and is not genuine
   pub take-judged : (refusal (take-causes image (view-of image s ws) bs) ≡ refusal (register-take-causes image s bs))
-      ⊎ ((refusal (early image s bs) ≡ None) × (fits image (block-proof (length s) (entries bs)) (roots-of image s) ≡ true) × (genuine image s (entries bs) ≡ false))
+      ⊎ Fits-not-genuine image s bs
   take-judged =
-      denials (early image s bs) late late (fits image (block-proof (length s) (entries bs)) (roots-of image s)) (genuine image s (entries bs)) refl
-      (λ e g. genuine-fits image s bs small (early-placed image s bs e) g)
+      refusals (early image s bs) late late (fitting image s bs) (genuine image s (entries bs)) refl
+      (λ e g. genuine-fits image s bs small (early-passed image s bs e) g)
 
   -- a block that the register takes, the wallet takes
-  pub taken-fits : refusal (register-take-causes image s bs) ≡ None → refusal (take-causes image (view-of image s ws) bs) ≡ None
+  taken-fits : refusal (register-take-causes image s bs) ≡ None → refusal (take-causes image (view-of image s ws) bs) ≡ None
   taken-fits granted =
       elim take-judged [
         | inl e ↦ e ∙ granted
-        | inr (a, b, c) ↦ absurd (true-false (genuine image s (entries bs)) (real granted) c)
+        | inr (a, b, c) ↦ absurd (true-false (genuine image s (entries bs)) (is-genuine granted) c)
       ]
 
 -- the step of a block that the register takes, on a wallet's view

@@ -8,8 +8,8 @@ use native.Mathlib.Omega.{arith}
 use lib.ListN.{length, getD, set, length-set}
 use lib.Seq.{take-at, ext-getD, getD-set-same, getD-set-other}
 use Rattle.std.specs.declared.option.Option.the-variants.{Some, None}
-use Rattle.std.proofs.shelf.Tests.{cases-lt, cases-eq, cases-bool}
 use Rattle.std.proofs.shelf.Lists.{getD-past}
+use Rattle.std.proofs.shelf.Tests.{cases-lt, cases-eq, cases-bool}
 use Rattle.utreexo.specs.declared.types.Coin.{Coin}
 use Rattle.utreexo.specs.Bytes.{Bytes}
 use Rattle.utreexo.specs.Lists.{below}
@@ -21,8 +21,8 @@ use Rattle.utreexo.specs.Checks.{targets-of}
 use Rattle.utreexo.specs.Collection.{spent-slot, slots-after, slots-named}
 use Rattle.utreexo.specs.Bridge.{undo-of, refilled, undone}
 use Rattle.laws.proofs.Order.{Mem}
-use Rattle.laws.proofs.Ranges.{below-mem}
 use Rattle.laws.proofs.Members.{mem-filter, filter-mem}
+use Rattle.laws.proofs.Ranges.{below-mem}
 use Rattle.laws.proofs.Slots.{slot-low, left, length-left, left-at, coinOf, spent-live}
 
 -- slots that agree with t but at ws are t once ws are refilled
@@ -58,7 +58,8 @@ module _ (image : Image) (s : Slots) (bs : Bytes) where
   undone-after =
       ap (λ z. refilled (slots-named image s (entries bs)) (map (coinOf s) (slots-named image s (entries bs))) z)
       (take-at (left image s ts) (map (λ c. Some c) (entries bs .coins)) (length s) (length-left image s ts))
-      ∙ refills s (coinOf s) (slots-named image s (entries bs)) (left image s ts) (length-left image s ts) at (λ w m. alive w (filter-mem (spent-slot image s ts) (below (length s)) w m .1))
+      ∙ refills s (coinOf s) (slots-named image s (entries bs)) (left image s ts) (length-left image s ts) at
+      (λ w m. alive w (filter-mem (spent-slot image s ts) (below (length s)) w m .1))
     where
       alive : (w : ℕ) → spent-slot image s ts w ≡ true → getD s w None ≡ Some (coinOf s w)
       alive w e = go (spent-live image s ts w e)

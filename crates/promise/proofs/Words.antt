@@ -1,7 +1,7 @@
 -- Words that fit: where all coins of the slots fit, so do all values over them.
 use mathlib.Core.Path.{_≡_, refl, sym, subst}
-use mathlib.Core.Bool.{Bool, true, false, cond}
 use mathlib.Core.Logic.{inl, inr}
+use mathlib.Core.Bool.{Bool, true, false, cond}
 use mathlib.Core.List.{List, [], _∷_, map}
 use Prim.Native.Nat.{ℕ, zero, suc, _+_, _*_}
 use native.Mathlib.Omega.{arith}
@@ -10,10 +10,10 @@ use Rattle.std.specs.declared.option.Option.{Option}
 use Rattle.std.specs.declared.option.Option.the-variants.{Some, None}
 use Rattle.std.specs.shelf.Lists.{All}
 use Rattle.std.proofs.shelf.Elements.{all-drop}
-use Rattle.utreexo.specs.declared.types.Value.{Value}
 use Rattle.utreexo.specs.declared.types.Coin.{Coin}
 use Rattle.utreexo.specs.declared.types.Input.{Input}
 use Rattle.utreexo.specs.declared.types.Input.the-variants.{Leaf}
+use Rattle.utreexo.specs.declared.types.Value.{Value}
 use Rattle.utreexo.specs.Bytes.{Bytes, Octets}
 use Rattle.utreexo.specs.Lists.{below}
 use Rattle.utreexo.specs.Values.{Image, Coin-fits, Value-fits, Input-fits, Image-fits}
@@ -24,39 +24,40 @@ use Rattle.utreexo.specs.Checks.{Answer, granted, refused, targets-of}
 use Rattle.utreexo.specs.Collection.{spent-slot, slots-after, slot-at, coin-at, image-of, paired, own-input, value-at, fresh-value}
 use Rattle.utreexo.specs.Bridge.{Bridge-call, bridge-take, bridge-take-back, Given-octets, as-call}
 use Rattle.utreexo.specs.Promise.{stand, standing, bridge-run}
-use Rattle.laws.proofs.Order.{Mem}
 use Rattle.laws.proofs.Logic.{never}
+use Rattle.laws.proofs.Order.{Mem}
 use Rattle.laws.proofs.Members.{mem-append, map-mem, getD-mem}
-use Rattle.promise.proofs.Built.{built, bridge-slots}
 use Rattle.promise.proofs.Octets.{added-fits}
+use Rattle.promise.proofs.Built.{built, bridge-slots}
 
 -- every coin of the slots fits
 abbrev pub Slots-fit : Slots → Type 0
 Slots-fit s = (w : ℕ) (c : Coin) → getD s w None ≡ Some c → Coin-fits c
 
 -- what there may be fits
-abbrev pub Maybe-input-fits : Option Input → Type 0
+abbrev Maybe-input-fits : Option Input → Type 0
 Maybe-input-fits None = Unit {0}
 Maybe-input-fits (Some i) = Input-fits i
 
-abbrev pub Maybe-value-fits : Option Value → Type 0
+abbrev Maybe-value-fits : Option Value → Type 0
 Maybe-value-fits None = Unit {0}
 Maybe-value-fits (Some v) = Value-fits v
 
-pub no-value-fits : Value-fits no-value
+-- the value of no account fits
+no-value-fits : Value-fits no-value
 no-value-fits = (omega arith, omega arith, omega arith, omega arith)
 
 -- a pair of values that fit fits
-pub paired-fits : (a b : Option Value) → Maybe-value-fits a → Maybe-value-fits b → Maybe-input-fits (paired a b)
+paired-fits : (a b : Option Value) → Maybe-value-fits a → Maybe-value-fits b → Maybe-input-fits (paired a b)
 paired-fits None b f g = tt
 paired-fits (Some a) None f g = tt
 paired-fits (Some a) (Some b) f g = (f, g)
 
 module _ (image : Image) (image-fits : Image-fits image) where
   -- the image of what fits fits
-  pub mapped-fits : (x : Option Input) → Maybe-input-fits x → Maybe-value-fits (image-of image x)
-  mapped-fits None f = tt
-  mapped-fits (Some i) f = image-fits i f
+  image-of-fits : (x : Option Input) → Maybe-input-fits x → Maybe-value-fits (image-of image x)
+  image-of-fits None f = tt
+  image-of-fits (Some i) f = image-fits i f
 
   module _ (s : Slots) (slots-fit : Slots-fit s) where
     coin-fits : (d : Node) (c : Coin) → coin-at image s d ≡ Some c → Coin-fits c
@@ -67,7 +68,7 @@ module _ (image : Image) (image-fits : Image-fits image) where
         go (Some w) q = slots-fit w c q
 
     -- the own input at each position fits
-    pub own-fits : (r o : ℕ) → Maybe-input-fits (own-input image s r o)
+    own-fits : (r o : ℕ) → Maybe-input-fits (own-input image s r o)
     own-fits zero o = go (coin-at image s (at-node 0 o)) refl
       where
         go : (x : Option Coin) → coin-at image s (at-node 0 o) ≡ x → Maybe-input-fits (elim x [ None ↦ None | Some c ↦ Some (Leaf c) ])
@@ -75,10 +76,14 @@ module _ (image : Image) (image-fits : Image-fits image) where
         go (Some c) e = coin-fits (at-node 0 o) c e
     own-fits (suc r) o = go (coin-at image s (at-node (suc r) o)) refl (own-fits r (2 * o)) (own-fits r (2 * o + 1))
       where
-        go : (x : Option Coin) → coin-at image s (at-node (suc r) o) ≡ x → Maybe-input-fits (own-input image s r (2 * o)) → Maybe-input-fits (own-input image s r (2 * o + 1))
-            → Maybe-input-fits (elim x [ None ↦ paired (image-of image (own-input image s r (2 * o))) (image-of image (own-input image s r (2 * o + 1))) | Some c ↦ Some (Leaf c) ])
+        go : (x : Option Coin) → coin-at image s (at-node (suc r) o) ≡ x
+            → Maybe-input-fits (own-input image s r (2 * o)) → Maybe-input-fits (own-input image s r (2 * o + 1))
+            → Maybe-input-fits (elim x [
+              | None ↦ paired (image-of image (own-input image s r (2 * o))) (image-of image (own-input image s r (2 * o + 1)))
+              | Some c ↦ Some (Leaf c)
+            ])
         go None e l k = paired-fits (image-of image (own-input image s r (2 * o))) (image-of image (own-input image s r (2 * o + 1)))
-            (mapped-fits (own-input image s r (2 * o)) l) (mapped-fits (own-input image s r (2 * o + 1)) k)
+            (image-of-fits (own-input image s r (2 * o)) l) (image-of-fits (own-input image s r (2 * o + 1)) k)
         go (Some c) e l k = coin-fits (at-node (suc r) o) c e
 
     -- and so does each fresh value
@@ -91,10 +96,10 @@ module _ (image : Image) (image-fits : Image-fits image) where
 
         go : (x : Option Node) → Value-fits (elim x [ None ↦ no-value | Some e ↦ (elim (value-at image s e) [ None ↦ no-value | Some v ↦ v ]) ])
         go None = no-value-fits
-        go (Some e) = one (value-at image s e) (mapped-fits (own-input image s (e .row) (e .place)) (own-fits (e .row) (e .place)))
+        go (Some e) = one (value-at image s e) (image-of-fits (own-input image s (e .row) (e .place)) (own-fits (e .row) (e .place)))
 
 -- blocks of bytes leave slots that fit
-pub after-fits : (image : Image) (b : Bytes) (s : Slots) → Octets b → Slots-fit s → Slots-fit (slots-after image b s)
+after-fits : (image : Image) (b : Bytes) (s : Slots) → Octets b → Slots-fit s → Slots-fit (slots-after image b s)
 after-fits image b s o f w c e =
     elim (mem-append (map (λ w. cond (dead w) None (getD s w None)) (below (length s))) (map (λ c. Some c) (entries b .coins)) (Some c)
     (getD-mem (slots-after image b s) w c e)) [
@@ -116,11 +121,11 @@ after-fits image b s o f w c e =
     new (d, n, q) = let z : c ≡ d = cc in subst Coin-fits (sym z) (added-fits b o d n)
 
 -- so all slots that blocks of bytes make fit
-pub built-fits : (image : Image) (bs : List Bytes) → All Octets bs → Slots-fit (built image bs)
+built-fits : (image : Image) (bs : List Bytes) → All Octets bs → Slots-fit (built image bs)
 built-fits image [] a w c e = absurd (never c e)
 built-fits image (b ∷ bs) a w c e = after-fits image b (built image bs) (a .0) (built-fits image bs (a .1)) w c e
 
--- of blocks that are bytes those that stand are
+-- where the blocks of calls are bytes, so are those that stand
 stand-octets : (c : Bridge-call) (a : Answer) (bs : List Bytes) → Given-octets c → All Octets bs → All Octets (stand (as-call c) a bs)
 stand-octets (bridge-take b) (granted o) bs g h = (g, h)
 stand-octets (bridge-take b) (refused k) bs g h = h
@@ -128,7 +133,8 @@ stand-octets bridge-take-back (granted o) bs g h = all-drop Octets 1 bs h
 stand-octets bridge-take-back (refused k) bs g h = h
 
 -- the standing blocks of a bridge that is given bytes are bytes
-pub standing-octets : (fed : List Bridge-call) (ans : List Answer) (bs : List Bytes) → All Given-octets fed → All Octets bs → All Octets (standing (map as-call fed) ans bs)
+standing-octets : (fed : List Bridge-call) (ans : List Answer) (bs : List Bytes) → All Given-octets fed → All Octets bs
+    → All Octets (standing (map as-call fed) ans bs)
 standing-octets [] ans bs g h = h
 standing-octets (c ∷ cs) [] bs g h = h
 standing-octets (c ∷ cs) (a ∷ ans) bs g h = standing-octets cs ans (stand (as-call c) a bs) (g .1) (stand-octets c a bs (g .0) h)
@@ -137,4 +143,5 @@ standing-octets (c ∷ cs) (a ∷ ans) bs g h = standing-octets cs ans (stand (a
 pub bridge-fits : (image : Image) (capacity : ℕ) (fed : List Bridge-call) → All Given-octets fed → Slots-fit (bridge-run image capacity fed .state .slots)
 bridge-fits image capacity fed octets =
     subst Slots-fit (sym (bridge-slots image capacity fed))
-    (built-fits image (standing (map as-call fed) (bridge-run image capacity fed .answers) []) (standing-octets fed (bridge-run image capacity fed .answers) [] octets tt))
+    (built-fits image (standing (map as-call fed) (bridge-run image capacity fed .answers) [])
+    (standing-octets fed (bridge-run image capacity fed .answers) [] octets tt))

@@ -1,5 +1,5 @@
-use Rattle.promise.proofs.Wants.{served-wants-octets}
+use Rattle.promise.proofs.Hypotheses.{blocks-must-be-bytes}
 use Rattle.promise.proofs.blocks_must_be_bytes.Needs as need
 
 pub returns : need.returns
-returns c = served-wants-octets
+returns c = blocks-must-be-bytes

@@ -1,5 +1,5 @@
 use Rattle.promise.proofs.read_back.Needs as need
-use Rattle.promise.proofs.Written.{read-back}
+use Rattle.promise.proofs.Composed.{read-back}
 
 pub returns : need.returns
 returns c = read-back
