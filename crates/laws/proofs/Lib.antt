@@ -39,4 +39,4 @@ pub mod Genuine
 pub mod Lone
 pub mod Count
 -- the laws
-mod Laws
+pub mod Laws

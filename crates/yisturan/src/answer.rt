@@ -3,8 +3,10 @@ use crate::hex::*;
 use block::entry::Counts;
 use block::entry::Entry;
 use block::read;
+use place::Node;
 use refusal::Refusal;
 use std::fmt;
+use utreexo::types::Position;
 
 // What a call gave.
 #[derive(Drop)]
@@ -12,6 +14,8 @@ pub(crate) enum Output {
     Nothing,
     Digest([u8; 32]),
     Counts(Counts),
+    // a row and place, and the position of the root above
+    Place(Node, Position),
     // a readable block, of which the entries are printed
     Entries(Counts, Vec<u8>),
     // a whole output buffer
@@ -69,6 +73,12 @@ pub(crate) impl fmt::Display for Output as OutputDisplay {
                 let hashes = counts.hashes;
                 let coins = counts.coins;
                 write!(f, "{spent},{hashes},{coins}")
+            }
+            Output::Place(node, root) => {
+                let row = node.row;
+                let place = node.place;
+                let number = root.number;
+                write!(f, "{row},{place},{number}")
             }
             Output::Entries(counts, block) => write_entries(f, *counts, block.as_slice()),
             Output::Buffer(bytes) => {

@@ -5,6 +5,7 @@ mod blocks;
 mod demonstration;
 mod fault;
 mod hex;
+mod places;
 mod script;
 
 use demonstration::*;

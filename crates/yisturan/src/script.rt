@@ -5,6 +5,7 @@ use crate::arguments::Argument;
 use crate::arguments::only_bytes;
 use crate::blocks;
 use crate::fault::*;
+use crate::places;
 use std::alloc::Global;
 use std::io;
 use std::io::BufRead;
@@ -16,6 +17,7 @@ enum Call {
     Read,
     Entries,
     Compose,
+    Place,
 }
 
 fn named(name: &str) -> Result<Call, Fault> {
@@ -24,6 +26,7 @@ fn named(name: &str) -> Result<Call, Fault> {
         "read" => Ok(Call::Read),
         "entries" => Ok(Call::Entries),
         "compose" => Ok(Call::Compose),
+        "place" => Ok(Call::Place),
         _ => Err(Fault::Call),
     }
 }
@@ -57,6 +60,7 @@ fn make_call(heap: Global, line: &str) -> Result<Answer, Fault> {
         Call::Read => blocks::read_counts(arguments.as_slice()),
         Call::Entries => blocks::list_entries(heap, arguments.as_slice()),
         Call::Compose => blocks::compose_block(heap, arguments.as_slice()),
+        Call::Place => places::locate(arguments.as_slice()),
     }
 }
 
