@@ -1,5 +1,6 @@
 mod Ascents
 mod Composing
+mod Gathering
 mod Outputs
 mod Placing
 mod Running

@@ -19,6 +19,7 @@ use Rattle.utreexo.specs.Lists.{below}
 use Rattle.utreexo.specs.Blocks.{spent-count, hash-count, coin-count, concat}
 use Rattle.utreexo.specs.Checks.{cause, refusal, read-causes}
 use Rattle.block.specs.declared.entry.Counts.{Counts}
+use Rattle.block.proofs.Gathering.{entries-read}
 use Rattle.block.specs.Reader.{Part, target, spent, hash, new, end, counts-in, targets-end, spent-end, hashes-end, coins-end, next-offset, taken, entry-at, read-next, is-end, bytes-of, read-run, entries-from, all-entries, Run-reads}
 
 -- an entry for which there are bytes enough
@@ -253,4 +254,4 @@ joined b e =
         cong (i ∷ is) = ap₂ (λ x xs. x ∷ xs) (same (part (from + w * i) w b)) (cong is)
 
 pub run-reads : Run-reads 0
-run-reads b e more = (runs b e more, joined b e)
+run-reads b e more = (runs b e more, entries-read b, joined b e)

@@ -7,9 +7,11 @@ use lib.Dec.{ltb}
 use lib.ListN.{length, take, drop}
 use denote.Ref.{RefT, now}
 use Rattle.std.specs.declared.option.Option.the-variants.{None}
-use Rattle.utreexo.specs.Bytes.{Bytes, part}
+use Rattle.utreexo.specs.declared.types.Coin.{Coin}
+use Rattle.utreexo.specs.declared.types.Value.{Value}
+use Rattle.utreexo.specs.Bytes.{Bytes, part, number-in, coin-in, value-in}
 use Rattle.utreexo.specs.Lists.{below}
-use Rattle.utreexo.specs.Blocks.{spent-count, hash-count, coin-count, concat}
+use Rattle.utreexo.specs.Blocks.{Block, concat, spent-count, hash-count, coin-count, entries}
 use Rattle.utreexo.specs.Checks.{refusal, read-causes}
 use Rattle.block.specs.declared.entry.Counts.{Counts}
 use Rattle.block.specs.declared.entry.Entry.{Entry}
@@ -108,10 +110,47 @@ all-entries b =
     ++ (entries-from hash 32 (spent-end c) (c .hashes) b
     ++ entries-from new 32 (hashes-end c) (c .coins) b))
 
+-- What was read, as a block: its targets as numbers, its coins and hashes as records.
+abbrev pub target-in : Part → List ℕ
+target-in (target b) = number-in b ∷ []
+target-in (spent b) = []
+target-in (hash b) = []
+target-in (new b) = []
+target-in end = []
+
+abbrev pub spent-in : Part → List Coin
+spent-in (target b) = []
+spent-in (spent b) = coin-in b ∷ []
+spent-in (hash b) = []
+spent-in (new b) = []
+spent-in end = []
+
+abbrev pub hash-in : Part → List Value
+hash-in (target b) = []
+hash-in (spent b) = []
+hash-in (hash b) = value-in b ∷ []
+hash-in (new b) = []
+hash-in end = []
+
+abbrev pub new-in : Part → List Coin
+new-in (target b) = []
+new-in (spent b) = []
+new-in (hash b) = []
+new-in (new b) = coin-in b ∷ []
+new-in end = []
+
+abbrev pub gathered : {A : Type 0} → (Part → List A) → List (Part × ℕ) → List A
+gathered of [] = []
+gathered of (e ∷ es) = of (e .0) ++ gathered of es
+
+abbrev pub read-as : List (Part × ℕ) → Block
+read-as es = record { targets = gathered target-in es; spent = gathered spent-in es; hashes = gathered hash-in es; coins = gathered new-in es }
+
 -- The reader's run over a readable block, begun with this offset for the entry before the first, and with as many calls as there are
--- entries or more, gives exactly these; and their bytes, after the six of the counts, join up to the block.
+-- entries or more, gives exactly these. They are the block's entries, and their bytes, after the six of the counts, join up to it.
 abbrev pub Run-reads : ℕ → Type 0
 Run-reads before-first = (b : Bytes) → refusal (read-causes b) ≡ None → (more : ℕ) →
     let c = counts-in b in
     (read-run (c .spent + (c .spent + (c .hashes + (c .coins + more)))) c before-first (drop 6 b) ≡ all-entries b)
+    × (read-as (all-entries b) ≡ entries b)
     × (take 6 b ++ concat (map (λ e. bytes-of (e .0)) (all-entries b)) ≡ b)
