@@ -9,10 +9,10 @@ use Rattle.utreexo.specs.declared.types.Coin.{Coin}
 use Rattle.utreexo.specs.declared.types.Position.{Position}
 use Rattle.utreexo.specs.declared.types.Value.{Value}
 use Rattle.utreexo.specs.Bytes.{Bytes, number-bytes, coin-bytes, value-bytes}
-use Rattle.utreexo.specs.Blocks.{Block, composed, concat}
+use Rattle.utreexo.specs.Blocks.{composed, concat}
 use Rattle.utreexo.specs.Checks.{Cause, refusal, granted, refused, over, output, compose, compose-causes}
 use Rattle.laws.proofs.Packing.{packed-length}
-use Rattle.block.specs.Compose.{numbers, placed}
+use Rattle.block.specs.Compose.{numbers, block-of, placed}
 use Rattle.block.proofs.Outputs.{output-refused, output-short, output-room}
 use Rattle.block.proofs.Placing.{five-parts}
 
@@ -32,11 +32,9 @@ coins-long cs = packed-length coin-bytes 32 (λ c. refl) cs
 pub values-long : (vs : List Value) → length (concat (map value-bytes vs)) ≡ 32 * length vs
 values-long vs = packed-length value-bytes 32 (λ v. refl) vs
 
-abbrev pub block-of : List Position → List Coin → List Value → List Coin → Block
-block-of ts ss hs cs = record { targets = numbers ts; spent = ss; hashes = hs; coins = cs }
-
 in-parts : (ts : List Position) (ss : List Coin) (hs : List Value) (cs : List Coin)
-    → counts ss hs cs ++ (targets ts ++ (concat (map coin-bytes ss) ++ (concat (map value-bytes hs) ++ concat (map coin-bytes cs)))) ≡ composed (block-of ts ss hs cs)
+    → counts ss hs cs ++ (targets ts ++ (concat (map coin-bytes ss) ++ (concat (map value-bytes hs) ++ concat (map coin-bytes cs))))
+    ≡ composed (block-of ts ss hs cs)
 in-parts ts ss hs cs =
     ap (λ t. counts ss hs cs ++ (t ++ (concat (map coin-bytes ss) ++ (concat (map value-bytes hs) ++ concat (map coin-bytes cs)))))
     (ap concat (sym (map-map (number-bytes 8) (λ p. p .number) ts)))
@@ -48,14 +46,20 @@ pub block-written : (ts : List Position) (ss : List Coin) (hs : List Value) (cs 
     → o₅ ≡ over (composed (block-of ts ss hs cs)) old
 block-written ts ss hs cs old o₁ o₂ o₃ o₄ o₅ p₁ p₂ p₃ p₄ p₅ =
     five-parts 6 (6 + 8 * length ts) (6 + 8 * length ts + 32 * length ss) (6 + 8 * length ts + 32 * length ss + 32 * length hs)
-    (counts ss hs cs) (targets ts) (concat (map coin-bytes ss)) (concat (map value-bytes hs)) (concat (map coin-bytes cs)) old o₁ o₂ o₃ o₄ o₅ p₁ p₂ p₃ p₄ p₅
-    refl (ap (λ n. 6 + n) (sym (targets-long ts))) (ap (λ n. 6 + 8 * length ts + n) (sym (coins-long ss))) (ap (λ n. 6 + 8 * length ts + 32 * length ss + n) (sym (values-long hs)))
+    (counts ss hs cs) (targets ts) (concat (map coin-bytes ss)) (concat (map value-bytes hs))
+    (concat (map coin-bytes cs)) old o₁ o₂ o₃ o₄ o₅ p₁ p₂ p₃ p₄ p₅
+    refl (ap (λ n. 6 + n) (sym (targets-long ts))) (ap (λ n. 6 + 8 * length ts + n) (sym (coins-long ss)))
+    (ap (λ n. 6 + 8 * length ts + 32 * length ss + n) (sym (values-long hs)))
     ∙ ap (λ b. over b old) (in-parts ts ss hs cs)
 
 -- how long a block is
-pub composed-long : (ts : List Position) (ss : List Coin) (hs : List Value) (cs : List Coin) → length ts ≡ length ss → length (composed (block-of ts ss hs cs)) ≡ 6 + 40 * length ss + 32 * length hs + 32 * length cs
+pub composed-long : (ts : List Position) (ss : List Coin) (hs : List Value) (cs : List Coin) → length ts ≡ length ss
+    → length (composed (block-of ts ss hs cs)) ≡ 6 + 40 * length ss + 32 * length hs + 32 * length cs
 composed-long ts ss hs cs e =
-    let m : length (composed (block-of ts ss hs cs)) ≡ length (counts ss hs cs ++ (targets ts ++ (concat (map coin-bytes ss) ++ (concat (map value-bytes hs) ++ concat (map coin-bytes cs))))) = ap length (sym (in-parts ts ss hs cs)) in
+    let m : length (composed (block-of ts ss hs cs))
+    ≡ length (counts ss hs cs ++
+    (targets ts ++ (concat (map coin-bytes ss) ++ (concat (map value-bytes hs) ++ concat (map coin-bytes cs))))) = ap length
+    (sym (in-parts ts ss hs cs)) in
     let a = length-append (targets ts) (concat (map coin-bytes ss) ++ (concat (map value-bytes hs) ++ concat (map coin-bytes cs))) in
     let b = length-append (concat (map coin-bytes ss)) (concat (map value-bytes hs) ++ concat (map coin-bytes cs)) in
     let c = length-append (concat (map value-bytes hs)) (concat (map coin-bytes cs)) in
@@ -72,7 +76,8 @@ module _ (ts : List Position) (ss : List Coin) (hs : List Value) (cs : List Coin
 
   -- the causes go by the number of targets
   by-targets : compose (numbers ts) ss hs cs out ≡ output causes (composed (block-of ts ss hs cs)) out
-  by-targets = ap (λ t. output (compose-causes t (length ss) (length hs) (length cs)) (composed (block-of ts ss hs cs)) out) (length-map ts (λ p. p .number))
+  by-targets = ap (λ t. output (compose-causes t (length ss) (length hs) (length cs)) (composed (block-of ts ss hs cs)) out)
+      (length-map ts (λ p. p .number))
 
   pub compose-refused : (k : ℕ) → refusal causes ≡ Some k → refused k ≡ compose (numbers ts) ss hs cs out
   compose-refused k e = sym (by-targets ∙ output-refused causes (composed (block-of ts ss hs cs)) out k e)

@@ -7,7 +7,8 @@ use Rattle.utreexo.specs.Bytes.{Bytes, part, number-in, coin-in, value-in}
 use Rattle.utreexo.specs.Lists.{below}
 use Rattle.utreexo.specs.Blocks.{entries}
 use Rattle.block.specs.declared.entry.Counts.{Counts}
-use Rattle.block.specs.Reader.{Part, target, spent, hash, new, counts-in, targets-end, spent-end, hashes-end, entries-from, all-entries, target-in, spent-in, hash-in, new-in, gathered, read-as}
+use Rattle.block.specs.Reader.{Part, target, spent, hash, new, counts-in, targets-end, spent-end, hashes-end, entries-from, all-entries, target-in}
+use Rattle.block.specs.Reader.{spent-in, hash-in, new-in, gathered, read-as}
 
 module _ {A : Type 0} (of : Part → List A) where
   gathered-append : (xs ys : List (Part × ℕ)) → gathered of (xs ++ ys) ≡ gathered of xs ++ gathered of ys
@@ -43,29 +44,34 @@ entries-read b = λ i. record { targets = targets-read i; spent = spent-read i; 
 
     targets-read : gathered target-in (all-entries b) ≡ entries b .targets
     targets-read =
-        four target-in (E target 8 6 (c .spent)) (E spent 32 (targets-end c) (c .spent)) (E hash 32 (spent-end c) (c .hashes)) (E new 32 (hashes-end c) (c .coins)) _ [] [] []
+        four target-in (E target 8 6 (c .spent)) (E spent 32 (targets-end c) (c .spent)) (E hash 32 (spent-end c) (c .hashes))
+        (E new 32 (hashes-end c) (c .coins)) _ [] [] []
         (each target-in number-in target (λ x. refl) 8 6 b (below (c .spent))) (none target-in spent (λ x. refl) 32 (targets-end c) b (below (c .spent)))
         (none target-in hash (λ x. refl) 32 (spent-end c) b (below (c .hashes))) (none target-in new (λ x. refl) 32 (hashes-end c) b (below (c .coins)))
         ∙ append-nil (entries b .targets)
 
     spent-read : gathered spent-in (all-entries b) ≡ entries b .spent
     spent-read =
-        four spent-in (E target 8 6 (c .spent)) (E spent 32 (targets-end c) (c .spent)) (E hash 32 (spent-end c) (c .hashes)) (E new 32 (hashes-end c) (c .coins)) [] _ [] []
+        four spent-in (E target 8 6 (c .spent)) (E spent 32 (targets-end c) (c .spent)) (E hash 32 (spent-end c) (c .hashes))
+        (E new 32 (hashes-end c) (c .coins)) [] _ [] []
         (none spent-in target (λ x. refl) 8 6 b (below (c .spent))) (each spent-in coin-in spent (λ x. refl) 32 (targets-end c) b (below (c .spent)))
         (none spent-in hash (λ x. refl) 32 (spent-end c) b (below (c .hashes))) (none spent-in new (λ x. refl) 32 (hashes-end c) b (below (c .coins)))
         ∙ append-nil (entries b .spent)
 
     hashes-read : gathered hash-in (all-entries b) ≡ entries b .hashes
     hashes-read =
-        four hash-in (E target 8 6 (c .spent)) (E spent 32 (targets-end c) (c .spent)) (E hash 32 (spent-end c) (c .hashes)) (E new 32 (hashes-end c) (c .coins)) [] [] _ []
+        four hash-in (E target 8 6 (c .spent)) (E spent 32 (targets-end c) (c .spent)) (E hash 32 (spent-end c) (c .hashes))
+        (E new 32 (hashes-end c) (c .coins)) [] [] _ []
         (none hash-in target (λ x. refl) 8 6 b (below (c .spent))) (none hash-in spent (λ x. refl) 32 (targets-end c) b (below (c .spent)))
-        (each hash-in value-in hash (λ x. refl) 32 (spent-end c) b (below (c .hashes))) (none hash-in new (λ x. refl) 32 (hashes-end c) b (below (c .coins)))
+        (each hash-in value-in hash (λ x. refl) 32 (spent-end c) b (below (c .hashes)))
+        (none hash-in new (λ x. refl) 32 (hashes-end c) b (below (c .coins)))
         ∙ append-nil (map (λ i. value-in (part (spent-end c + 32 * i) 32 b)) (below (c .hashes)))
         ∙ ap (λ from. map (λ i. value-in (part (from + 32 * i) 32 b)) (below (c .hashes))) (omega arith)
 
     coins-read : gathered new-in (all-entries b) ≡ entries b .coins
     coins-read =
-        four new-in (E target 8 6 (c .spent)) (E spent 32 (targets-end c) (c .spent)) (E hash 32 (spent-end c) (c .hashes)) (E new 32 (hashes-end c) (c .coins)) [] [] [] _
+        four new-in (E target 8 6 (c .spent)) (E spent 32 (targets-end c) (c .spent)) (E hash 32 (spent-end c) (c .hashes))
+        (E new 32 (hashes-end c) (c .coins)) [] [] [] _
         (none new-in target (λ x. refl) 8 6 b (below (c .spent))) (none new-in spent (λ x. refl) 32 (targets-end c) b (below (c .spent)))
         (none new-in hash (λ x. refl) 32 (spent-end c) b (below (c .hashes))) (each new-in coin-in new (λ x. refl) 32 (hashes-end c) b (below (c .coins)))
         ∙ ap (λ from. map (λ i. coin-in (part (from + 32 * i) 32 b)) (below (c .coins))) (omega arith)

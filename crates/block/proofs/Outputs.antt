@@ -17,7 +17,9 @@ some-first : (cs ds : List Cause) (k : ℕ) → refusal cs ≡ Some k → refusa
 some-first [] ds k e = let q : _≡_ {A = ℕ} 0 1 = cc in absurd (omega arith)
 some-first (c ∷ cs) ds k e = go (some-first cs ds k) (c .holds) e
   where
-    go : (refusal cs ≡ Some k → refusal (cs ++ ds) ≡ Some k) → (t : Bool) → _≡_ {A = Option ℕ} (elim t [ true ↦ Some (c .number) | false ↦ refusal cs ]) (Some k) → _≡_ {A = Option ℕ} (elim t [ true ↦ Some (c .number) | false ↦ refusal (cs ++ ds) ]) (Some k)
+    go : (refusal cs ≡ Some k → refusal (cs ++ ds) ≡ Some k) → (t : Bool)
+        → _≡_ {A = Option ℕ} (elim t [ true ↦ Some (c .number) | false ↦ refusal cs ]) (Some k)
+        → _≡_ {A = Option ℕ} (elim t [ true ↦ Some (c .number) | false ↦ refusal (cs ++ ds) ]) (Some k)
     go on true e = e
     go on false e = on e
 
@@ -26,7 +28,9 @@ none-first : (cs ds : List Cause) → refusal cs ≡ None → refusal (cs ++ ds)
 none-first [] ds e = refl
 none-first (c ∷ cs) ds e = go (none-first cs ds) (c .holds) e
   where
-    go : (refusal cs ≡ None → refusal (cs ++ ds) ≡ refusal ds) → (t : Bool) → _≡_ {A = Option ℕ} (elim t [ true ↦ Some (c .number) | false ↦ refusal cs ]) None → _≡_ {A = Option ℕ} (elim t [ true ↦ Some (c .number) | false ↦ refusal (cs ++ ds) ]) (refusal ds)
+    go : (refusal cs ≡ None → refusal (cs ++ ds) ≡ refusal ds) → (t : Bool)
+        → _≡_ {A = Option ℕ} (elim t [ true ↦ Some (c .number) | false ↦ refusal cs ]) None
+        → _≡_ {A = Option ℕ} (elim t [ true ↦ Some (c .number) | false ↦ refusal (cs ++ ds) ]) (refusal ds)
     go on true e = let q : _≡_ {A = ℕ} 0 1 = cc in absurd (omega arith)
     go on false e = on e
 

@@ -28,7 +28,8 @@ module _ {A : Type 0} (f : A → Bytes) where
   -- some records are no longer than all
   pub no-longer : (xs : List A) (i : ℕ) → length (packed-up i xs) ≤ length (concat (map f xs))
   no-longer xs i =
-      let e : concat (map f xs) ≡ packed-up i xs ++ concat (map f (drop i xs)) = ap (λ ys. concat (map f ys)) (sym (take-append-drop i xs)) ∙ ap concat (map-append f (take i xs) (drop i xs)) ∙ concat-append (map f (take i xs)) (map f (drop i xs)) in
+      let e : concat (map f xs) ≡ packed-up i xs ++ concat (map f (drop i xs)) = ap (λ ys. concat (map f ys)) (sym (take-append-drop i xs))
+      ∙ ap concat (map-append f (take i xs) (drop i xs)) ∙ concat-append (map f (take i xs)) (map f (drop i xs)) in
       let n = length-append (packed-up i xs) (concat (map f (drop i xs))) in
       let m = ap length e in
       omega arith
@@ -48,7 +49,8 @@ pub placed-none : (at : ℕ) (old : Bytes) → old ≡ placed at [] old
 placed-none at old = sym (ap (λ k. take at old ++ drop k old) (omega arith) ∙ take-append-drop at old)
 
 -- what is placed after what was placed
-pub placed-more : (at a k : ℕ) (b c old : Bytes) → a ≡ at + length b → k ≡ length c → at ≤ length old → putMid a k (placed at b old) c ≡ placed at (b ++ c) old
+pub placed-more : (at a k : ℕ) (b c old : Bytes) → a ≡ at + length b → k ≡ length c → at ≤ length old → putMid a k (placed at b old) c
+    ≡ placed at (b ++ c) old
 placed-more at a k b c old e q l =
     putMid-paste a k (placed at b old) c c k refl refl q
     ∙ ap₂ (λ x y. (x ++ take k c) ++ y) front back
@@ -79,12 +81,13 @@ over-first b old = ap (λ k. b ++ drop k old) (zero-add (length b))
 
 over-more : (k : ℕ) (b c old : Bytes) → k ≡ length b → placed k c (over b old) ≡ over (b ++ c) old
 over-more k b c old e =
-    ap₂ (λ x y. x ++ (c ++ y)) (take-at b (drop (length b) old) k (sym e)) (sym (drop-drop (length c) k (over b old)) ∙ ap (drop (length c)) (drop-at b (drop (length b) old) k (sym e)) ∙ drop-drop (length c) (length b) old)
+    ap₂ (λ x y. x ++ (c ++ y)) (take-at b (drop (length b) old) k (sym e)) (sym (drop-drop (length c) k (over b old))
+    ∙ ap (drop (length c)) (drop-at b (drop (length b) old) k (sym e)) ∙ drop-drop (length c) (length b) old)
     ∙ sym (append-assoc b c (drop (length b + length c) old)) ∙ ap (λ n. (b ++ c) ++ drop n old) (sym (length-append b c))
 
 -- five parts, each placed behind the ones before
-pub five-parts : (k₂ k₃ k₄ k₅ : ℕ) (a b c d e old o₁ o₂ o₃ o₄ o₅ : Bytes) → o₁ ≡ placed 0 a old → o₂ ≡ placed k₂ b o₁ → o₃ ≡ placed k₃ c o₂ → o₄ ≡ placed k₄ d o₃ → o₅ ≡ placed k₅ e o₄
-    → k₂ ≡ length a → k₃ ≡ k₂ + length b → k₄ ≡ k₃ + length c → k₅ ≡ k₄ + length d → o₅ ≡ over (a ++ (b ++ (c ++ (d ++ e)))) old
+pub five-parts : (k₂ k₃ k₄ k₅ : ℕ) (a b c d e old o₁ o₂ o₃ o₄ o₅ : Bytes) → o₁ ≡ placed 0 a old → o₂ ≡ placed k₂ b o₁ → o₃ ≡ placed k₃ c o₂
+    → o₄ ≡ placed k₄ d o₃ → o₅ ≡ placed k₅ e o₄ → k₂ ≡ length a → k₃ ≡ k₂ + length b → k₄ ≡ k₃ + length c → k₅ ≡ k₄ + length d → o₅ ≡ over (a ++ (b ++ (c ++ (d ++ e)))) old
 five-parts k₂ k₃ k₄ k₅ a b c d e old o₁ o₂ o₃ o₄ o₅ p₁ p₂ p₃ p₄ p₅ q₂ q₃ q₄ q₅ =
     p₅ ∙ ap (placed k₅ e) r₄ ∙ over-more k₅ (((a ++ b) ++ c) ++ d) e old l₅
     ∙ ap (λ z. over z old) (append-assoc ((a ++ b) ++ c) d e ∙ append-assoc (a ++ b) c (d ++ e) ∙ append-assoc a b (c ++ (d ++ e)))

@@ -20,10 +20,12 @@ use Rattle.utreexo.specs.Blocks.{spent-count, hash-count, coin-count, concat}
 use Rattle.utreexo.specs.Checks.{cause, refusal, read-causes}
 use Rattle.block.specs.declared.entry.Counts.{Counts}
 use Rattle.block.proofs.Gathering.{entries-read}
-use Rattle.block.specs.Reader.{Part, target, spent, hash, new, end, counts-in, targets-end, spent-end, hashes-end, coins-end, next-offset, taken, entry-at, read-next, is-end, bytes-of, read-run, entries-from, all-entries, Run-reads}
+use Rattle.block.specs.Reader.{Part, target, spent, hash, new, end, counts-in, targets-end, spent-end, hashes-end, coins-end, next-offset, taken, entry-at}
+use Rattle.block.specs.Reader.{read-next, is-end, bytes-of, read-run, entries-from, all-entries, Run-reads}
 
 -- an entry for which there are bytes enough
-enough : (kind : Bytes → Part) (w before o : ℕ) (rest : Bytes) → w ≤ length rest → _≡_ {A = Part × ℕ × Bytes} (taken kind w before o rest) (kind (take w rest), o, drop w rest)
+enough : (kind : Bytes → Part) (w before o : ℕ) (rest : Bytes) → w ≤ length rest
+    → _≡_ {A = Part × ℕ × Bytes} (taken kind w before o rest) (kind (take w rest), o, drop w rest)
 enough kind w before o rest l = ap (λ t. cond t (end, before, rest) (kind (take w rest), o, drop w rest)) (le-ltb (length rest) w l)
 
 -- what a run goes on with, once its next answer is known
@@ -32,7 +34,8 @@ onward more c r = cond (is-end (r .0)) [] ((r .0, r .1) ∷ read-run more c (r .
 
 -- entries of one kind, of w bytes each, from an offset on
 module _ (b : Bytes) (c : Counts) (kind : Bytes → Part) (plain : (x : Bytes) → is-end (kind x) ≡ false) (w from m : ℕ)
-    (here : (i before : ℕ) (rest : Bytes) → i < m → _≡_ {A = Part × ℕ × Bytes} (entry-at c before (from + w * i) rest) (taken kind w before (from + w * i) rest))
+    (here : (i before : ℕ) (rest : Bytes) → i < m
+    → _≡_ {A = Part × ℕ × Bytes} (entry-at c before (from + w * i) rest) (taken kind w before (from + w * i) rest))
     (after : (i : ℕ) → i < m → next-offset c (from + w * i) ≡ from + w * suc i)
     (room : from + w * m ≤ length b) where
   abbrev entry : ℕ → Part × ℕ
@@ -53,7 +56,8 @@ module _ (b : Bytes) (c : Counts) (kind : Bytes → Part) (plain : (x : Bytes) �
       ∙ ap (λ z. entry i ∷ read-run f c (from + w * i) z) far
 
   pub region : (n i f k before : ℕ) → i + n ≡ m → f ≡ n + k → next-offset c before ≡ from + w * i
-      → (last : ℕ) × (next-offset c last ≡ from + w * m) × (read-run f c before (drop (from + w * i) b) ≡ map entry (range i n) ++ read-run k c last (drop (from + w * m) b))
+      → (last : ℕ) × (next-offset c last ≡ from + w * m) × (read-run f c before (drop (from + w * i) b)
+      ≡ map entry (range i n) ++ read-run k c last (drop (from + w * m) b))
   region zero i f k before e q at =
       let x : i ≡ m = omega arith in
       let y : f ≡ k = omega arith in
@@ -79,8 +83,10 @@ third false false false e = refl
 
 pub right-length : (b : Bytes) → refusal (read-causes b) ≡ None → length b ≡ 6 + 40 * spent-count b + 32 * hash-count b + 32 * coin-count b
 right-length b e =
-    let t = third (ltb (length b) 6) (ltb 32 (spent-count b) || (ltb 992 (hash-count b) || ltb 32 (coin-count b))) (not (eqb (length b) (6 + 40 * spent-count b + 32 * hash-count b + 32 * coin-count b))) e in
-    eqb-true (length b) (6 + 40 * spent-count b + 32 * hash-count b + 32 * coin-count b) (not-false (eqb (length b) (6 + 40 * spent-count b + 32 * hash-count b + 32 * coin-count b)) t)
+    let t = third (ltb (length b) 6) (ltb 32 (spent-count b) || (ltb 992 (hash-count b) || ltb 32 (coin-count b)))
+    (not (eqb (length b) (6 + 40 * spent-count b + 32 * hash-count b + 32 * coin-count b))) e in
+    eqb-true (length b) (6 + 40 * spent-count b + 32 * hash-count b + 32 * coin-count b)
+    (not-false (eqb (length b) (6 + 40 * spent-count b + 32 * hash-count b + 32 * coin-count b)) t)
 
 -- past the targets every entry has 32 bytes
 after-targets : (c : Counts) (o : ℕ) → targets-end c ≤ o → next-offset c o ≡ o + 32
@@ -98,7 +104,8 @@ module _ (b : Bytes) (e : refusal (read-causes b) ≡ None) where
   long : length b ≡ coins-end c
   long = right-length b e ∙ (omega arith)
 
-  targets-here : (i before : ℕ) (rest : Bytes) → i < c .spent → _≡_ {A = Answer} (entry-at c before (6 + 8 * i) rest) (taken target 8 before (6 + 8 * i) rest)
+  targets-here : (i before : ℕ) (rest : Bytes) → i < c .spent
+      → _≡_ {A = Answer} (entry-at c before (6 + 8 * i) rest) (taken target 8 before (6 + 8 * i) rest)
   targets-here i before rest l = yes-of {A = Answer} (ltb (6 + 8 * i) (targets-end c)) _ _ (lt-ltb (6 + 8 * i) (targets-end c) (omega arith))
 
   targets-after : (i : ℕ) → i < c .spent → next-offset c (6 + 8 * i) ≡ 6 + 8 * suc i
@@ -107,18 +114,21 @@ module _ (b : Bytes) (e : refusal (read-causes b) ≡ None) where
       ∙ yes-of (ltb (6 + 8 * i) (targets-end c)) (6 + 8 * i + 8) (6 + 8 * i + 32) (lt-ltb (6 + 8 * i) (targets-end c) (omega arith))
       ∙ omega arith
 
-  spent-here : (i before : ℕ) (rest : Bytes) → i < c .spent → _≡_ {A = Answer} (entry-at c before (targets-end c + 32 * i) rest) (taken spent 32 before (targets-end c + 32 * i) rest)
+  spent-here : (i before : ℕ) (rest : Bytes) → i < c .spent
+      → _≡_ {A = Answer} (entry-at c before (targets-end c + 32 * i) rest) (taken spent 32 before (targets-end c + 32 * i) rest)
   spent-here i before rest l =
       no-of {A = Answer} (ltb (targets-end c + 32 * i) (targets-end c)) _ _ (le-ltb (targets-end c + 32 * i) (targets-end c) (omega arith))
       ∙ yes-of {A = Answer} (ltb (targets-end c + 32 * i) (spent-end c)) _ _ (lt-ltb (targets-end c + 32 * i) (spent-end c) (omega arith))
 
-  hashes-here : (i before : ℕ) (rest : Bytes) → i < c .hashes → _≡_ {A = Answer} (entry-at c before (spent-end c + 32 * i) rest) (taken hash 32 before (spent-end c + 32 * i) rest)
+  hashes-here : (i before : ℕ) (rest : Bytes) → i < c .hashes
+      → _≡_ {A = Answer} (entry-at c before (spent-end c + 32 * i) rest) (taken hash 32 before (spent-end c + 32 * i) rest)
   hashes-here i before rest l =
       no-of {A = Answer} (ltb (spent-end c + 32 * i) (targets-end c)) _ _ (le-ltb (spent-end c + 32 * i) (targets-end c) (omega arith))
       ∙ no-of {A = Answer} (ltb (spent-end c + 32 * i) (spent-end c)) _ _ (le-ltb (spent-end c + 32 * i) (spent-end c) (omega arith))
       ∙ yes-of {A = Answer} (ltb (spent-end c + 32 * i) (hashes-end c)) _ _ (lt-ltb (spent-end c + 32 * i) (hashes-end c) (omega arith))
 
-  coins-here : (i before : ℕ) (rest : Bytes) → i < c .coins → _≡_ {A = Answer} (entry-at c before (hashes-end c + 32 * i) rest) (taken new 32 before (hashes-end c + 32 * i) rest)
+  coins-here : (i before : ℕ) (rest : Bytes) → i < c .coins
+      → _≡_ {A = Answer} (entry-at c before (hashes-end c + 32 * i) rest) (taken new 32 before (hashes-end c + 32 * i) rest)
   coins-here i before rest l =
       no-of {A = Answer} (ltb (hashes-end c + 32 * i) (targets-end c)) _ _ (le-ltb (hashes-end c + 32 * i) (targets-end c) (omega arith))
       ∙ no-of {A = Answer} (ltb (hashes-end c + 32 * i) (spent-end c)) _ _ (le-ltb (hashes-end c + 32 * i) (spent-end c) (omega arith))
@@ -147,29 +157,38 @@ module _ (b : Bytes) (e : refusal (read-causes b) ≡ None) where
   after-32 : (from : ℕ) → targets-end c ≤ from → (i : ℕ) → next-offset c (from + 32 * i) ≡ from + 32 * suc i
   after-32 from l i = after-targets c (from + 32 * i) (omega arith) ∙ omega arith
 
-  targets-listed : (k : ℕ) → (last : ℕ) × (next-offset c last ≡ targets-end c) × (read-run (c .spent + k) c 0 (drop 6 b) ≡ listed target 8 6 (c .spent) ++ read-run k c last (drop (targets-end c) b))
-  targets-listed k = let l = long in region b c target (λ x. refl) 8 6 (c .spent) targets-here targets-after (omega arith) (c .spent) 0 (c .spent + k) k 0 (zero-add (c .spent)) refl refl
+  targets-listed : (k : ℕ)
+      → (last : ℕ) × (next-offset c last ≡ targets-end c) × (read-run (c .spent + k) c 0 (drop 6 b)
+      ≡ listed target 8 6 (c .spent) ++ read-run k c last (drop (targets-end c) b))
+  targets-listed k = let l = long in region b c target (λ x. refl) 8 6 (c .spent) targets-here targets-after (omega arith) (c .spent) 0 (c .spent + k) k 0
+      (zero-add (c .spent)) refl refl
 
   -- entries of 32 bytes
   records-listed : (kind : Bytes → Part) → ((x : Bytes) → is-end (kind x) ≡ false) → (from m : ℕ) → targets-end c ≤ from
-      → ((i before : ℕ) (rest : Bytes) → i < m → _≡_ {A = Answer} (entry-at c before (from + 32 * i) rest) (taken kind 32 before (from + 32 * i) rest)) → from + 32 * m ≤ length b
+      → ((i before : ℕ) (rest : Bytes) → i < m → _≡_ {A = Answer} (entry-at c before (from + 32 * i) rest) (taken kind 32 before (from + 32 * i) rest))
+      → from + 32 * m ≤ length b
       → (k before : ℕ) → next-offset c before ≡ from
-      → (last : ℕ) × (next-offset c last ≡ from + 32 * m) × (read-run (m + k) c before (drop from b) ≡ listed kind 32 from m ++ read-run k c last (drop (from + 32 * m) b))
+      → (last : ℕ) × (next-offset c last ≡ from + 32 * m) × (read-run (m + k) c before (drop from b)
+      ≡ listed kind 32 from m ++ read-run k c last (drop (from + 32 * m) b))
   records-listed kind plain from m past here room k before at =
-      let (last, p, r) = region b c kind plain 32 from m here (λ i h. after-32 from past i) room m 0 (m + k) k before (zero-add m) refl (at ∙ at-start from) in
+      let (last, p, r) = region b c kind plain 32 from m here (λ i h. after-32 from past i) room m 0 (m + k) k before (zero-add m) refl (at
+      ∙ at-start from) in
       (last, p, ap (λ o. read-run (m + k) c before (drop o b)) (at-start from) ∙ r)
 
   all-listed : (more : ℕ) → read-run (c .spent + (c .spent + (c .hashes + (c .coins + more)))) c 0 (drop 6 b)
-      ≡ listed target 8 6 (c .spent) ++ (listed spent 32 (targets-end c) (c .spent) ++ (listed hash 32 (spent-end c) (c .hashes) ++ listed new 32 (hashes-end c) (c .coins)))
+      ≡ listed target 8 6 (c .spent) ++
+      (listed spent 32 (targets-end c) (c .spent) ++ (listed hash 32 (spent-end c) (c .hashes) ++ listed new 32 (hashes-end c) (c .coins)))
   all-listed more =
       let (before₁, at₁, r₁) = targets-listed (c .spent + (c .hashes + (c .coins + more))) in
-      let (before₂, at₂, r₂) = records-listed spent (λ x. refl) (targets-end c) (c .spent) past₂ spent-here room₂ (c .hashes + (c .coins + more)) before₁ at₁ in
+      let (before₂, at₂, r₂) = records-listed spent (λ x. refl) (targets-end c) (c .spent) past₂ spent-here room₂
+      (c .hashes + (c .coins + more)) before₁ at₁ in
       let (before₃, at₃, r₃) = records-listed hash (λ x. refl) (spent-end c) (c .hashes) past₃ hashes-here room₃ (c .coins + more) before₂ at₂ in
       let (before₄, at₄, r₄) = records-listed new (λ x. refl) (hashes-end c) (c .coins) past₄ coins-here room₄ more before₃ at₃ in
       r₁ ∙ ap (λ z. listed target 8 6 (c .spent) ++ z)
       (r₂ ∙ ap (λ z. listed spent 32 (targets-end c) (c .spent) ++ z)
       (r₃ ∙ ap (λ z. listed hash 32 (spent-end c) (c .hashes) ++ z)
-      (r₄ ∙ ap (λ z. listed new 32 (hashes-end c) (c .coins) ++ z) (stops more before₄ (drop (coins-end c) b) at₄) ∙ append-nil (listed new 32 (hashes-end c) (c .coins)))))
+      (r₄ ∙ ap (λ z. listed new 32 (hashes-end c) (c .coins) ++ z) (stops more before₄ (drop (coins-end c) b) at₄)
+      ∙ append-nil (listed new 32 (hashes-end c) (c .coins)))))
     where
       past₂ : targets-end c ≤ targets-end c
       past₂ = omega arith
@@ -192,7 +211,9 @@ module _ (b : Bytes) (e : refusal (read-causes b) ≡ None) where
   pub runs : (more : ℕ) → read-run (c .spent + (c .spent + (c .hashes + (c .coins + more)))) c 0 (drop 6 b) ≡ all-entries b
   runs more =
       all-listed more
-      ∙ ap₂ _++_ (named target 8 6 (c .spent)) (ap₂ _++_ (named spent 32 (targets-end c) (c .spent)) (ap₂ _++_ (named hash 32 (spent-end c) (c .hashes)) (named new 32 (hashes-end c) (c .coins))))
+      ∙ ap₂ _++_ (named target 8 6 (c .spent))
+      (ap₂ _++_ (named spent 32 (targets-end c) (c .spent))
+      (ap₂ _++_ (named hash 32 (spent-end c) (c .hashes)) (named new 32 (hashes-end c) (c .coins))))
     where
       named : (kind : Bytes → Part) (w from n : ℕ) → listed kind w from n ≡ entries-from kind w from n b
       named kind w from n = ap (map (λ i. (kind (part (from + w * i) w b), from + w * i))) (sym (below-range n))
@@ -245,7 +266,8 @@ joined b e =
     cut : (xs ys : List (Part × ℕ)) → bytes-in (xs ++ ys) ≡ bytes-in xs ++ bytes-in ys
     cut xs ys = ap concat (map-append (λ e. bytes-of (e .0)) xs ys) ∙ concat-append (map (λ e. bytes-of (e .0)) xs) (map (λ e. bytes-of (e .0)) ys)
 
-    bytes : (w from m : ℕ) → from + w * m ≤ length b → (kind : Bytes → Part) → ((x : Bytes) → bytes-of (kind x) ≡ x) → bytes-in (E kind w from m) ≡ take (w * m) (drop from b)
+    bytes : (w from m : ℕ) → from + w * m ≤ length b → (kind : Bytes → Part) → ((x : Bytes) → bytes-of (kind x) ≡ x) → bytes-in (E kind w from m)
+        ≡ take (w * m) (drop from b)
     bytes w from m h kind same =
         ap concat (map-map (λ e. bytes-of (e .0)) (λ i. (kind (part (from + w * i) w b), from + w * i)) (below m) ∙ cong (below m)) ∙ pieces b w from m h
       where

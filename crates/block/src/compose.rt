@@ -4,7 +4,7 @@ ghost use Prim.Native.Nat.{_+_, _*_, _≤_};
 ghost use lib.ListN.{length};
 ghost use Rattle.utreexo.specs.Blocks.{composed};
 ghost use Rattle.utreexo.specs.Checks.{over, compose-causes, compose as composing};
-ghost use Rattle.block.specs.Compose.{numbers};
+ghost use Rattle.block.specs.Compose.{numbers, block-of, Few};
 ghost use Rattle.utreexo.specs.Outcomes.{Judged, answered, Writes};
 use crate::packed::Count;
 use crate::packed::pack_all;
@@ -21,7 +21,7 @@ fn composed_length(
     hashes: usize,
     coins: usize,
 ) -> Result<usize, Refusal>
-    ensures { λ r. ⌜ Judged (compose-causes targets spent hashes coins) (λ n. (n ≡ 6 + 40 * spent + 32 * hashes + 32 * coins) × (targets ≡ spent) × (spent ≤ 32) × (hashes ≤ 992) × (coins ≤ 32)) r ⌝ }
+    ensures { λ r. ⌜ Judged (compose-causes targets spent hashes coins) (λ n. (n ≡ 6 + 40 * spent + 32 * hashes + 32 * coins) × Few targets spent hashes coins) r ⌝ }
 {
     if targets > 32 || spent > 32 || hashes > 992 || coins > 32 {
         return Err(Refusal::OverLimit);
@@ -40,9 +40,9 @@ fn write_block(
     coins: &[Coin],
     out: &mut [u8],
 )
-    requires few { ⌜ (length (now targets) ≡ length (now spent)) × (length (now spent) ≤ 32) × (length (now hashes) ≤ 992) × (length (now coins) ≤ 32) ⌝ }
+    requires few { ⌜ Few (length (now targets)) (length (now spent)) (length (now hashes)) (length (now coins)) ⌝ }
     requires room { ⌜ 6 + 40 * length (now spent) + 32 * length (now hashes) + 32 * length (now coins) ≤ length (now out) ⌝ }
-    ensures { λ _. ⌜ now (out .exit) ≡ over (composed (record { targets = numbers (now (targets .entry)); spent = now (spent .entry); hashes = now (hashes .entry); coins = now (coins .entry) })) (now (out .entry)) ⌝ }
+    ensures { λ _. ⌜ now (out .exit) ≡ over (composed (block-of (now (targets .entry)) (now (spent .entry)) (now (hashes .entry)) (now (coins .entry)))) (now (out .entry)) ⌝ }
 {
     let counts = [
         Count(spent.len() as u16),
@@ -68,7 +68,7 @@ pub fn compose(
     out: &mut [u8],
 ) -> Result<usize, Refusal>
     ensures answer { λ r. ⌜ answered r (now (out .exit)) ≡ composing (numbers (now (targets .entry))) (now (spent .entry)) (now (hashes .entry)) (now (coins .entry)) (now (out .entry)) ⌝ }
-    ensures left { λ r. ⌜ Writes (composed (record { targets = numbers (now (targets .entry)); spent = now (spent .entry); hashes = now (hashes .entry); coins = now (coins .entry) })) (now (out .entry)) (now (out .exit)) r ⌝ }
+    ensures left { λ r. ⌜ Writes (composed (block-of (now (targets .entry)) (now (spent .entry)) (now (hashes .entry)) (now (coins .entry)))) (now (out .entry)) (now (out .exit)) r ⌝ }
 {
     let length = match composed_length(targets.len(), spent.len(), hashes.len(), coins.len()) {
         Ok(length) => length,

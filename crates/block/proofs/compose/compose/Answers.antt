@@ -14,7 +14,7 @@ returns-in-Err c =
 pub returns-then-out-length : need.returns-then-out-length
 returns-then-out-length c =
     let ok = c .in-Ok .ensures tt in
-    let long = composed-long (c .args .targets .now) (c .args .spent .now) (c .args .hashes .now) (c .args .coins .now) (ok .1 .1) ∙ sym (ok .1 .0) in
+    let long = composed-long (c .args .targets .now) (c .args .spent .now) (c .args .hashes .now) (c .args .coins .now) (ok .1 .1 .0) ∙ sym (ok .1 .0) in
     record {
       answer = compose-short (c .args .targets .now) (c .args .spent .now) (c .args .hashes .now) (c .args .coins .now) (c .args .out .now) (ok .0) (c .in-Ok .length) long (c .if-out-length .taken);
       left = refl;
@@ -23,7 +23,7 @@ returns-then-out-length c =
 pub returns : need.returns
 returns c =
     let ok = c .in-Ok .ensures tt in
-    let long = composed-long (c .args .targets .now) (c .args .spent .now) (c .args .hashes .now) (c .args .coins .now) (ok .1 .1) ∙ sym (ok .1 .0) in
+    let long = composed-long (c .args .targets .now) (c .args .spent .now) (c .args .hashes .now) (c .args .coins .now) (ok .1 .1 .0) ∙ sym (ok .1 .0) in
     record {
       answer = ap (λ o. granted o) (c .write-block .ensures)
           ∙ compose-room (c .args .targets .now) (c .args .spent .now) (c .args .hashes .now) (c .args .coins .now) (c .args .out .now) (ok .0) (c .in-Ok .length) long (c .if-out-length .left);
