@@ -1,4 +1,6 @@
 // BLAKE2s with a digest of 32 bytes and no key, for messages of at most 128 bytes (RFC 7693).
+#![tactic(auto)]
+
 mod compress;
 #[cfg(test)]
 mod tests;

@@ -1,4 +1,6 @@
 // The claims of a block's proof, worked out row by row from the slots up. Nothing here allocates.
+#![tactic(auto)]
+
 mod above;
 pub mod after;
 pub mod climb;

@@ -1,4 +1,6 @@
 // Compressions: what gives each input one image.
+#![tactic(auto)]
+
 pub mod hash;
 pub mod tally;
 #[cfg(test)]

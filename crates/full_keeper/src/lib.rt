@@ -1,4 +1,6 @@
 // The full keeper: beside the coins it keeps the value over every run within the count.
+#![tactic(auto)]
+
 mod layout;
 mod relay;
 

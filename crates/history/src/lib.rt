@@ -1,4 +1,6 @@
 // A history of marks in a slice that the caller lends: up to 64 of its places are used, in a circle. A slice of no place holds no mark.
+#![tactic(auto)]
+
 ghost use Rattle.std.specs.Prelude.{◌≡◌, ◌<◌};
 ghost use Rattle.utreexo.specs.Checks.{push as pushed};
 ghost use Rattle.history.specs.Stack.{room, stack, newest_of, older, Next};

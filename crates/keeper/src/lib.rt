@@ -1,4 +1,6 @@
 // Keepers: the stores in which a bridge has the slots of a forest.
+#![tactic(auto)]
+
 pub mod bare;
 pub mod run;
 

@@ -1,5 +1,7 @@
 // The theory of the forest is in proofs/. The functions here do nothing: each one's contract is a law of the definitions, and the
 // crate would not check without its proof.
+#![tactic(auto)]
+
 ghost use Rattle.std.specs.Prelude.{◌^◌};
 ghost use Rattle.laws.specs.Laws.{OnePosition, InsideExactly, LivePositions, RootValues, PathsFresh, NeededFew};
 

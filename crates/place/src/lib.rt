@@ -1,4 +1,6 @@
 // Rows, places and positions of a forest, from the count alone.
+#![tactic(auto)]
+
 #[cfg(test)]
 mod tests;
 

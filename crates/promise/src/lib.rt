@@ -1,5 +1,7 @@
 // The promise, proved over the definitions. The functions here do nothing: each one's contract is a theorem, and the crate would not
 // check without its proof, which is in proofs/.
+#![tactic(auto)]
+
 ghost use Rattle.std.specs.Prelude.{ℕ, ◌⊎◌, List};
 ghost use Rattle.utreexo.specs.Bytes.{Octets};
 ghost use Rattle.utreexo.specs.Values.{Image, CoinFits, ImageFits};

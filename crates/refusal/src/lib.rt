@@ -1,9 +1,11 @@
 // The refusals: every reason for which a call of this repository says no.
-ghost use Rattle.std.specs.Prelude.{◌≡◌, Decides};
+#![tactic(auto)]
+
+ghost use Rattle.std.specs.Prelude.{◌≡◌, Decides, nat_eq};
+ghost use Rattle.std.specs.Ordering.{on};
 ghost use Rattle.refusal.specs.Numbers.{number};
 ghost use Rattle.std.specs.Cmp.Rules.{comparing};
 ghost use Rattle.std.proofs.Common.{rules};
-ghost use Rattle.std.specs.Cmp as Keys;
 
 use std::fmt;
 
@@ -116,11 +118,14 @@ impl fmt::Display for Refusal {
 
 // Written out and not derived, so that a caller's proof learns what the answer says.
 impl PartialEq for Refusal {
-    ghost equals = { λ a b t. Decides t (a ≡ b) };
+    ghost eq = { on number nat_eq };
 
-    ghost laws = { Keys.partial_equiv_from_equiv (Prim.search (comparing, rules)) };
+    ghost laws = { Prim.search (comparing, rules) };
 
-    fn eq(&self, other: &Refusal) -> bool {
+    fn eq(&self, other: &Refusal) -> bool
+        ensures answer { result ≡ on number nat_eq self.now other.now }
+        ensures decides { Decides result (self.now ≡ other.now) }
+    {
         self.number() == other.number()
     }
 }

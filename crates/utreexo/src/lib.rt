@@ -1,5 +1,7 @@
 // The Utreexo forest: its records, and in specs/ every definition that the other crates are proved against. Read specs/ in the order
 // of specs/Lib.antt.
+#![tactic(auto)]
+
 mod coin;
 #[cfg(test)]
 mod tests;

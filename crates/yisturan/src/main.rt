@@ -1,4 +1,6 @@
 // Yisturan from the command line. Each word is a task, and the tasks are done in order; no word asks for the demonstration.
+#![tactic(auto)]
+
 mod answer;
 mod arguments;
 mod blocks;
