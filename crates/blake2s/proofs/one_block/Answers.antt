@@ -7,4 +7,4 @@ use Rattle.blake2s.proofs.one_block.Goals as goal
 pub returns : goal.returns
 unfolding blake2s
 returns g c =
-    c.write-state.ensures ∙ ap (flat_map word_bytes) (one c.args.message.now _ _ c.requires c.last-block.ensures)
+    c.write_state.ensures ∙ ap (flat_map word_bytes) (one c.args.message.now _ _ c.requires c.last_block.ensures)

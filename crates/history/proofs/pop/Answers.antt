@@ -11,7 +11,7 @@ returns-then-held-eq0 g c =
 pub returns : goal.returns
 returns g c =
     let both =
-    stack_pop c.args.marks.now c.args.ring.now c.min-places.result c.min-newest.result c.place-before-ring.result _
+    stack_pop c.args.marks.now c.args.ring.now c.min-places.result c.min-newest.result c.place_before-ring.result _
     c.index-marks-newest.result c.min-places.ensures (omega arith) (omega arith) c.min-newest.ensures
-    c.place-before-ring.ensures (omega arith) c.index-marks-newest.is in
+    c.place_before-ring.ensures (omega arith) c.index-marks-newest.is in
     record { value = both.0; after = both.1 }

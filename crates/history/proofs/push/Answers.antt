@@ -5,8 +5,8 @@ use Rattle.history.proofs.push.Goals as goal
 
 pub returns-then-places-gt0 : goal.returns-then-places-gt0
 returns-then-places-gt0 g c =
-    stack_push c.args.marks.now c.args.ring.now c.min-places.result c.next-place-next.result _ c.args.mark
-    c.min-places.ensures (omega arith) c.next-place-next.ensures (omega arith)
+    stack_push c.args.marks.now c.args.ring.now c.min-places.result c.next_place-next.result _ c.args.mark
+    c.min-places.ensures (omega arith) c.next_place-next.ensures (omega arith)
 
 pub returns-else-places-gt0 : goal.returns-else-places-gt0
 returns-else-places-gt0 g c =

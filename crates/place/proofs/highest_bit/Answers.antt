@@ -8,4 +8,4 @@ returns c =
     let (j, e, low, high) = leading_top 64 c.args.x c.requires (omega arith) in
     let at : 63 - count_leading_zeros 64 c.args.x ≡ j = omega arith in
     let twice = two-pow-succ j in
-    record { high-bound = rw at low; low-bound = rw at (omega (arith, twice, high)); bound = omega arith }
+    record { high_bound = rw at low; low_bound = rw at (omega (arith, twice, high)); bound = omega arith }

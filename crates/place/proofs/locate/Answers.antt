@@ -3,10 +3,10 @@ use Rattle.place.proofs.Powers.{double_shl}
 use Rattle.place.proofs.Numbers.{Counted, counted, counted_numbered, found, not_found, past_end}
 use Rattle.place.proofs.locate.Goals as goal
 
-deep : (c : goal.After-highest-bit-depth) → Counted c.rows-rows.result c.args.position.number c.highest-bit-depth.result
+deep : (c : goal.After-highest_bit-depth) → Counted c.rows-rows.result c.args.position.number c.highest_bit-depth.result
 deep c =
-    counted c.rows-rows.result c.args.position.number c.highest-bit-depth.result c.rows-rows.ensures.low c.if-position-end.false
-    c.highest-bit-depth.ensures.high-bound c.highest-bit-depth.ensures.low-bound
+    counted c.rows-rows.result c.args.position.number c.highest_bit-depth.result c.rows-rows.ensures.low c.if-position-end.false
+    c.highest_bit-depth.ensures.high_bound c.highest_bit-depth.ensures.low_bound
 
 pub overflow-sub-end : goal.overflow-sub-end
 overflow-sub-end c = omega (arith, double_shl c.rows-rows.result c.rows-rows.ensures.low, pow_pos c.rows-rows.result)
@@ -24,7 +24,7 @@ pub overflow-sub-found : goal.overflow-sub-found
 overflow-sub-found c = (deep c).row
 
 pub overflow-sub-found-2 : goal.overflow-sub-found-2
-overflow-sub-found-2 c = let k = deep c in omega (arith, pow_pos c.highest-bit-depth.result)
+overflow-sub-found-2 c = let k = deep c in omega (arith, pow_pos c.highest_bit-depth.result)
 
 pub overflow-sub-found-3 : goal.overflow-sub-found-3
 overflow-sub-found-3 c = let k = deep c in omega arith
@@ -32,22 +32,22 @@ overflow-sub-found-3 c = let k = deep c in omega arith
 pub overflow-cast-found-2 : goal.overflow-cast-found-2
 overflow-cast-found-2 c = let k = deep c in omega arith
 
-pub returns-then-not-is-inside : goal.returns-then-not-is-inside
-returns-then-not-is-inside c =
-    let s = counted_numbered _ _ _ c.rows-rows.ensures.low c.if-position-end.false c.highest-bit-depth.ensures.high-bound c.highest-bit-depth.ensures.low-bound in
+pub returns-then-not-is_inside : goal.returns-then-not-is_inside
+returns-then-not-is_inside c =
+    let s = counted_numbered _ _ _ c.rows-rows.ensures.low c.if-position-end.false c.highest_bit-depth.ensures.high_bound c.highest_bit-depth.ensures.low_bound in
     record {
       value =
-          sym (not_found c.args.count c.rows-rows.result c.args.position.number _ _ c.highest-bit-depth.result (omega arith)
-          c.rows-rows.ensures.value s (sym c.if-not-is-inside.ensures.value));
+          sym (not_found c.args.count c.rows-rows.result c.args.position.number _ _ c.highest_bit-depth.result (omega arith)
+          c.rows-rows.ensures.value s (sym c.if-not-is_inside.ensures.value));
       low = tt;
     }
 
 pub returns : goal.returns
 returns c =
-    let s = counted_numbered _ _ _ c.rows-rows.ensures.low c.if-position-end.false c.highest-bit-depth.ensures.high-bound c.highest-bit-depth.ensures.low-bound in
+    let s = counted_numbered _ _ _ c.rows-rows.ensures.low c.if-position-end.false c.highest_bit-depth.ensures.high_bound c.highest_bit-depth.ensures.low_bound in
     record {
       value =
-          sym (found c.args.count c.rows-rows.result c.args.position.number _ _ c.highest-bit-depth.result (omega arith)
-          c.rows-rows.ensures.value s (sym c.if-not-is-inside.ensures.value));
-      low = c.if-not-is-inside.ensures.low refl;
+          sym (found c.args.count c.rows-rows.result c.args.position.number _ _ c.highest_bit-depth.result (omega arith)
+          c.rows-rows.ensures.value s (sym c.if-not-is_inside.ensures.value));
+      low = c.if-not-is_inside.ensures.low refl;
     }

@@ -7,14 +7,14 @@ returns-then-node-runs c =
     let e = c.runs-runs.ensures.value in
     record { value = sym (outside c.args.count c.args.node.row c.args.node.place (omega arith) (omega arith)); range = tt }
 
-pub highest-bit-requires : goal.highest-bit-requires
-highest-bit-requires c = xor_some _ _ c.if-node-runs.false
+pub highest_bit-requires : goal.highest_bit-requires
+highest_bit-requires c = xor_some _ _ c.if-node-runs.false
 
 pub returns : goal.returns
 returns c =
     let n = c.args.count in
     let r = c.args.node.row in
     let o = c.args.node.place in
-    let j = c.highest-bit.result in
-    let e = tree_found n r o c.runs-runs.result j (omega arith) c.runs-runs.ensures.value c.if-node-runs.false c.highest-bit.ensures.high-bound c.highest-bit.ensures.low-bound in
+    let j = c.highest_bit.result in
+    let e = tree_found n r o c.runs-runs.result j (omega arith) c.runs-runs.ensures.value c.if-node-runs.false c.highest_bit.ensures.high_bound c.highest_bit.ensures.low_bound in
     record { value = sym e; range = tree_range n r o (r + j) (omega arith) e }

@@ -25,7 +25,7 @@ returns c =
     let ok = c.in-Ok.ensures in
     let long = composed_long c.args.targets.now c.args.spent.now c.args.hashes.now c.args.coins.now ok.1.1.0 ∙ sym ok.1.0 in
     record {
-      answer = ap (λ o. granted o) c.write-block.ensures
+      answer = ap (λ o. granted o) c.write_block.ensures
           ∙ compose_room c.args.targets.now c.args.spent.now c.args.hashes.now c.args.coins.now c.args.out.now ok.0 c.in-Ok.length long c.if-out-length.false;
       left = sym long;
     }

@@ -16,5 +16,5 @@ pub returns-in-Some : goal.returns-in-Some
 returns-in-Some c =
     let hs = c.args.hashes.now in
     let less : c.args.number < length hs / 32 = omega arith in
-    let bytes : c.in-Some.bytes.now ≡ part (32 * c.args.number) 32 hs = c.in-Some.ensures.cases.0 ∙ ap (take 32) c.split-at.ensures.back in
-    c.from-bytes.ensures ∙ ap value_in bytes ∙ sym (get_or_below (λ i. value_in (part (32 * i) 32 hs)) no_value (length hs / 32) c.args.number less)
+    let bytes : c.in-Some.bytes.now ≡ part (32 * c.args.number) 32 hs = c.in-Some.ensures.cases.0 ∙ ap (take 32) c.split_at.ensures.back in
+    c.from_bytes.ensures ∙ ap value_in bytes ∙ sym (get_or_below (λ i. value_in (part (32 * i) 32 hs)) no_value (length hs / 32) c.args.number less)

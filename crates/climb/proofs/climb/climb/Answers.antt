@@ -11,24 +11,24 @@ use Rattle.climb.proofs.climb.climb.Goals as goal
 
 pub loop-row-init : goal.loop-row-init
 loop-row-init g c =
-    standing_none c.empty-carried.ensures c.as-slice-left.ensures.value c.as-slice-left.ensures.few c.told-roots (length_map c.args.after.now.rows held ∙ c.args.after.now.whole)
+    standing_none c.empty-carried.ensures c.as_slice-left.ensures.value c.as_slice-left.ensures.few c.told-roots (length_map c.args.after.now.rows held ∙ c.args.after.now.whole)
 
 pub loop-row-preserved : goal.loop-row-preserved
 loop-row-preserved g c =
     let image = g.C.Compression.image in
     let t = c.args.targets.now in
     let small : t.count < 2 ^ 32 = omega arith in
-    let merged-so : held c.merge-row-merged.result ≡ merge left_of (held c.loop-row.carried) (spents image c.split-at.result.0.now) =
-    c.merge-row-merged.ensures ∙ ap (λ (l : List Item). merge left_of l (spents image c.split-at.result.0.now)) c.as-slice.ensures in
-    let size = ap length c.as-slice-in-loop-row.ensures in
+    let merged-so : held c.merge_row-merged.result ≡ merge left_of (held c.loop-row.carried) (spents image c.split_at.result.0.now) =
+    c.merge_row-merged.ensures ∙ ap (λ (l : List Item). merge left_of l (spents image c.split_at.result.0.now)) c.as_slice.ensures in
+    let size = ap length c.as_slice-in-loop-row.ensures in
     standing_more (valid_is t.count (placed t) small t.valid) c.loop-row.invariant c.loop-row-test.true c.told-roots
-    c.count-row.result c.count-row.ensures c.split-at.result.0.now c.split-at.result.1.now c.split-at.ensures.front c.split-at.ensures.back
-    (held c.merge-row-merged.result) merged-so (held c.step-row-raised.result.parents) c.step-row-raised.result.aside c.step-row-raised.result.next
-    (c.step-row-raised.ensures.made
-    ∙ ap (step image (hashes_in c.args.hashes.now) (c.count-count.result / 2 ^ c.loop-row.row) c.loop-row.next None) c.as-slice-in-loop-row.ensures
-    ∙ ap (λ n. step image (hashes_in c.args.hashes.now) (n / 2 ^ c.loop-row.row) c.loop-row.next None (held c.merge-row-merged.result)) c.count-count.ensures)
-    (omega (arith, c.step-row-raised.ensures.count)) (omega (arith, c.step-row-raised.ensures.room))
-    c.meets-root.result c.meets-root.ensures c.both-fitting.result c.both-fitting.ensures c.root_after.result c.root_after.ensures _ c.set-row.ensures
+    c.count_row.result c.count_row.ensures c.split_at.result.0.now c.split_at.result.1.now c.split_at.ensures.front c.split_at.ensures.back
+    (held c.merge_row-merged.result) merged-so (held c.step_row-raised.result.parents) c.step_row-raised.result.aside c.step_row-raised.result.next
+    (c.step_row-raised.ensures.made
+    ∙ ap (step image (hashes_in c.args.hashes.now) (c.count-count.result / 2 ^ c.loop-row.row) c.loop-row.next None) c.as_slice-in-loop-row.ensures
+    ∙ ap (λ n. step image (hashes_in c.args.hashes.now) (n / 2 ^ c.loop-row.row) c.loop-row.next None (held c.merge_row-merged.result)) c.count-count.ensures)
+    (omega (arith, c.step_row-raised.ensures.count)) (omega (arith, c.step_row-raised.ensures.room))
+    c.meets_root.result c.meets_root.ensures c.both-fitting.result c.both-fitting.ensures c.root_after.result c.root_after.ensures _ c.set_row.ensures
 
 pub returns : goal.returns
 returns g c =

@@ -14,14 +14,14 @@ grow-rows-requires g c =
       few = omega arith;
       least = subst (λ x. Least x m.rows) (sym c.len-count.ensures) m.least;
       room = λ k l.
-          (fitting (n + 1) m.limit k m.top (length c.as-mut-slice.result.now) (omega arith) m.small m.high l (c.as-mut-slice.ensures.len ∙ m.room)).room;
+          (fitting (n + 1) m.limit k m.top (length c.as_mut_slice.result.now) (omega arith) m.small m.high l (c.as_mut_slice.ensures.len ∙ m.room)).room;
     }
 
-pub update-path-requires : goal.update-path-requires
-update-path-requires g c =
+pub update_path-requires : goal.update_path-requires
+update_path-requires g c =
     let m = c.args.self.now in
     let n = c.len-count.result in
-    let f = fitting (n + 1) m.limit c.grow-rows.result m.top (length c.as-mut-slice-2.result.now) (omega arith) m.small m.high c.grow-rows.ensures.least (c.as-mut-slice-2.ensures.len ∙ m.room) in
+    let f = fitting (n + 1) m.limit c.grow-rows.result m.top (length c.as_mut_slice-2.result.now) (omega arith) m.small m.high c.grow-rows.ensures.least (c.as_mut_slice-2.ensures.len ∙ m.room) in
     let top = f.high in
     record { slot = omega arith; high = omega arith; low = f.low; room = f.room }
 
@@ -34,18 +34,18 @@ returns g c =
     let n = c.len-count.result in
     let rows = c.grow-rows.result in
     let laid = c.grow-rows.new.table in
-    let new = c.as-slice.result.now in
+    let new = c.as_slice.result.now in
     let size : n ≡ length s = c.len-count.ensures ∙ m.coins.ok.0 in
     let grown : n + 1 ≡ length new = omega arith in
     record {
-      after = (omega arith, c.push-reserved.ensures.items);
+      after = (omega arith, c.push_reserved.ensures.items);
       same = refl;
       kept = λ was.
-          to_positions image new _ (n + 1) rows c.update-path.new.table _ (sym c.as-slice.ensures.value)
-          (with_items_is (with_items m.table laid) c.update-path.new.table (omega arith)) grown (omega arith) c.grow-rows.ensures.least
-          (c.update-path.ensures
-          (push_stored image s new rows laid c.as-mut-slice-2.result.now n (Some c.args.coin) size (c.as-slice.ensures.value ∙ c.push-reserved.ensures.items)
-          (c.as-mut-slice-2.ensures.value ∙ with_items_is m.table laid (omega arith))
-          (laid_stored image s n m.rows rows t c.as-mut-slice.result.now laid size c.as-mut-slice.ensures.value
+          to_positions image new _ (n + 1) rows c.update_path.new.table _ (sym c.as_slice.ensures.value)
+          (with_items_is (with_items m.table laid) c.update_path.new.table (omega arith)) grown (omega arith) c.grow-rows.ensures.least
+          (c.update_path.ensures
+          (push_stored image s new rows laid c.as_mut_slice-2.result.now n (Some c.args.coin) size (c.as_slice.ensures.value ∙ c.push_reserved.ensures.items)
+          (c.as_mut_slice-2.ensures.value ∙ with_items_is m.table laid (omega arith))
+          (laid_stored image s n m.rows rows t c.as_mut_slice.result.now laid size c.as_mut_slice.ensures.value
           (from_positions image s (vec_len m.coins) m.rows t m.coins.ok.0 (omega arith) m.least was) c.grow-rows.ensures.laid)));
     }

@@ -10,7 +10,7 @@ shrink-rows-requires g c =
     let m = c.args.self.now in
     let n = c.len-count.result in
     let e : vec_len m.coins ≡ n - 1 + 1 = omega arith in
-    let f = fitting (vec_len m.coins) m.limit m.rows m.top (length c.as-mut-slice.result.now) m.fits m.small m.high m.least (c.as-mut-slice.ensures.len ∙ m.room) in
+    let f = fitting (vec_len m.coins) m.limit m.rows m.top (length c.as_mut_slice.result.now) m.fits m.small m.high m.least (c.as_mut_slice.ensures.len ∙ m.room) in
     record { few = omega arith; least = subst (λ x. Least x m.rows) e m.least; room = f.room }
 
 pub returns : goal.returns
@@ -29,7 +29,7 @@ returns g c =
       same = refl;
       kept = λ was.
           to_positions image (take (n - 1) s) _ (n - 1) rows laid _ c.truncate.ensures.items (with_items_is m.table laid (omega arith)) fewer (omega arith) c.shrink-rows.ensures.least
-          (laid_stored image (take (n - 1) s) (n - 1) m.rows rows t c.as-mut-slice.result.now laid fewer c.as-mut-slice.ensures.value
+          (laid_stored image (take (n - 1) s) (n - 1) m.rows rows t c.as_mut_slice.result.now laid fewer c.as_mut_slice.ensures.value
           (stored_take image s m.rows t (n - 1) (omega arith)
           (from_positions image s (vec_len m.coins) m.rows t m.coins.ok.0 (omega arith) m.least was)) c.shrink-rows.ensures.laid);
     }

@@ -21,8 +21,8 @@ slice-copy-out·right g c =
     let q = reach (length c.args.coins.now) c.args.rows c.loop-place.row c.loop-place.place (length c.loop-place.table) c.requires.high c.loop-place.invariant.room c.loop-place.invariant.pos (omega arith) in
     omega (arith, q.below)
 
-pub index-of-at-requires : goal.index-of-at-requires
-index-of-at-requires g c =
+pub index_of-at-requires : goal.index_of-at-requires
+index_of-at-requires g c =
     let q = reach (length c.args.coins.now) c.args.rows c.loop-place.row c.loop-place.place (length c.loop-place.table) c.requires.high c.loop-place.invariant.room c.loop-place.invariant.pos (omega arith) in
     (omega arith, (q.row, omega (arith, q.place, pow_mono {i = c.args.rows} {j = 32} c.requires.low)))
 
@@ -34,7 +34,7 @@ bounds-table-at g c =
 pub loop-place-preserved : goal.loop-place-preserved
 loop-place-preserved g c =
     updating_node g.C.Compression.image c.args.coins.now c.args.rows _ c.loop-place.table c.args.slot c.requires.high c.loop-place.row c.loop-place.place c.loop-place.runs c.loop-place.invariant
-    c.loop-place-test.true c.index-of-below.result c.index-of-at.result c.join.result c.index-of-below.ensures c.index-of-at.ensures c.join.ensures
+    c.loop-place-test.true c.index_of-below.result c.index_of-at.result c.join.result c.index_of-below.ensures c.index_of-at.ensures c.join.ensures
 
 pub returns : goal.returns
 returns g c = λ was.

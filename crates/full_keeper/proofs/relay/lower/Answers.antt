@@ -8,14 +8,14 @@ loop-row-init c = lower_none c.args.count c.args.rows c.args.table.now c.require
 
 pub loop-row-preserved : goal.loop-row-preserved
 loop-row-preserved c =
-    lower_more c.args.count c.args.rows c.args.table.now c.requires.high c.loop-row.table c.copy-row.new.table c.loop-row.row (omega arith) c.copy-row.ensures.long c.loop-row.invariant
-    c.copy-row.ensures.copied
+    lower_more c.args.count c.args.rows c.args.table.now c.requires.high c.loop-row.table c.copy_row.new.table c.loop-row.row (omega arith) c.copy_row.ensures.long c.loop-row.invariant
+    c.copy_row.ensures.copied
 
 pub returns : goal.returns
 returns c = lower_all c.args.count c.args.rows c.args.table.now c.requires.high c.loop-row.table c.loop-row.row (omega arith) c.loop-row.invariant
 
-pub copy-row-requires : goal.copy-row-requires
-copy-row-requires c =
+pub copy_row-requires : goal.copy_row-requires
+copy_row-requires c =
     let R = c.args.rows in
     let top = c.requires.high in
     let room = c.requires.room in

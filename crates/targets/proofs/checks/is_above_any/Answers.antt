@@ -4,13 +4,13 @@ use Rattle.targets.specs.Targets.{strictly_above}
 use Rattle.targets.proofs.Placing.{any_here, any_more, any_done}
 use Rattle.targets.proofs.checks.is_above_any.Goals as goal
 
-pub returns-then-is-above : goal.returns-then-is-above
-returns-then-is-above c =
-    any_here (strictly_above (target_of c.args.upper)) c.args.spends.now c.loop-lower.lower-index _ c.loop-lower-test.true c.loop-lower.invariant c.if-is-above.ensures
+pub returns-then-is_above : goal.returns-then-is_above
+returns-then-is_above c =
+    any_here (strictly_above (target_of c.args.upper)) c.args.spends.now c.loop-lower.lower-index _ c.loop-lower-test.true c.loop-lower.invariant c.if-is_above.ensures
 
 pub loop-lower-preserved : goal.loop-lower-preserved
 loop-lower-preserved c =
-    any_more (strictly_above (target_of c.args.upper)) c.args.spends.now c.loop-lower.lower-index _ c.loop-lower-test.true c.loop-lower.invariant c.if-is-above.ensures
+    any_more (strictly_above (target_of c.args.upper)) c.args.spends.now c.loop-lower.lower-index _ c.loop-lower-test.true c.loop-lower.invariant c.if-is_above.ensures
 
 pub returns : goal.returns
 returns c = any_done (strictly_above (target_of c.args.upper)) c.args.spends.now c.loop-lower.lower-index c.loop-lower-test.false c.loop-lower.invariant

@@ -7,4 +7,4 @@ parts a b c d a' b' c' d' p q r s = ap₂ ◌++◌ p (ap₂ ◌++◌ q (ap₂ �
 
 pub returns : goal.returns
 returns c =
-    parts _ _ _ _ _ _ _ _ (c.copy-from-slice-4.ensures.after ∙ c.write-word-4.ensures) (c.copy-from-slice-3.ensures.after ∙ c.write-word-3.ensures) (c.copy-from-slice-2.ensures.after ∙ c.write-word-2.ensures) (c.copy-from-slice.ensures.after ∙ c.write-word.ensures)
+    parts _ _ _ _ _ _ _ _ (c.copy_from_slice-4.ensures.after ∙ c.write_word-4.ensures) (c.copy_from_slice-3.ensures.after ∙ c.write_word-3.ensures) (c.copy_from_slice-2.ensures.after ∙ c.write_word-2.ensures) (c.copy_from_slice.ensures.after ∙ c.write_word.ensures)

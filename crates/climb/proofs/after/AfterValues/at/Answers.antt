@@ -16,10 +16,10 @@ pub returns-in-None : goal.returns-in-None
 returns-in-None c =
     let t = c.args.self.now in
     let inside : c.args.row < length t.rows = let w = t.whole in omega arith in
-    ap left_at (c.in-None.ensures ∙ ap (λ (l : List Item). lookup l c.args.place) (c.as-slice.ensures ∙ sym (get_or-map held t.rows c.args.row _ [] inside)))
+    ap left_at (c.in-None.ensures ∙ ap (λ (l : List Item). lookup l c.args.place) (c.as_slice.ensures ∙ sym (get_or-map held t.rows c.args.row _ [] inside)))
 
 pub returns-in-Some : goal.returns-in-Some
 returns-in-Some c =
     let t = c.args.self.now in
     let inside : c.args.row < length t.rows = let w = t.whole in omega arith in
-    ap left_at (c.in-Some.ensures ∙ ap (λ (l : List Item). lookup l c.args.place) (c.as-slice.ensures ∙ sym (get_or-map held t.rows c.args.row _ [] inside)))
+    ap left_at (c.in-Some.ensures ∙ ap (λ (l : List Item). lookup l c.args.place) (c.as_slice.ensures ∙ sym (get_or-map held t.rows c.args.row _ [] inside)))

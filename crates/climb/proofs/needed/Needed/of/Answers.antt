@@ -20,20 +20,20 @@ loop-row-preserved c =
     let valid = valid_is t.count (placed t) small t.valid in
     let up = c.loop-row.invariant.0 in
     let row = c.loop-row.row in
-    let here = c.split-at.result.0.now in
-    let higher = c.split-at.result.1.now in
-    let merged : List Item = c.as-slice-items.result.now in
+    let here = c.split_at.result.0.now in
+    let higher = c.split_at.result.1.now in
+    let merged : List Item = c.as_slice-items.result.now in
     let merged-so : merged ≡ merge left_of (held c.loop-row.carried) (spents image here) =
-    c.as-slice-items.ensures ∙ c.merge-row-merged.ensures ∙ ap (λ (l : List Item). merge left_of l (spents image here)) c.as-slice.ensures in
-    let low = merged_low valid up c.loop-row-test.true c.count-row.result c.count-row.ensures here higher c.split-at.ensures.front c.split-at.ensures.back in
+    c.as_slice-items.ensures ∙ c.merge_row-merged.ensures ∙ ap (λ (l : List Item). merge left_of l (spents image here)) c.as_slice.ensures in
+    let low = merged_low valid up c.loop-row-test.true c.count_row.result c.count_row.ensures here higher c.split_at.ensures.front c.split_at.ensures.back in
     let size = ap length merged-so in
-    let Made-so = c.step-row-raised.ensures.made ∙ ap (λ n. step image [] (n / 2 ^ row) c.loop-row.next None merged) c.count-count.ensures in
-    let nodes-so = c.push-siblings.ensures ∙ ap (λ n. nodes_of c.loop-row.needed ++ map (at_node row) (lones (n / 2 ^ row) (places merged))) c.count-count.ensures in (
-      rising_more valid up c.loop-row-test.true c.count-row.result c.count-row.ensures here higher c.split-at.ensures.front c.split-at.ensures.back
-          merged merged-so (held c.step-row-raised.result.parents) c.step-row-raised.result.aside c.step-row-raised.result.next Made-so
-          c.step-row-raised.ensures.count c.step-row-raised.ensures.room,
+    let Made-so = c.step_row-raised.ensures.made ∙ ap (λ n. step image [] (n / 2 ^ row) c.loop-row.next None merged) c.count-count.ensures in
+    let nodes-so = c.push_siblings.ensures ∙ ap (λ n. nodes_of c.loop-row.needed ++ map (at_node row) (lones (n / 2 ^ row) (places merged))) c.count-count.ensures in (
+      rising_more valid up c.loop-row-test.true c.count_row.result c.count_row.ensures here higher c.split_at.ensures.front c.split_at.ensures.back
+          merged merged-so (held c.step_row-raised.result.parents) c.step_row-raised.result.aside c.step_row-raised.result.next Made-so
+          c.step_row-raised.ensures.count c.step_row-raised.ensures.room,
       lacked_more c.loop-row.invariant.1 image (proof_of t.count (placed t) []) merged
-          (merged-so ∙ merged_is valid up c.loop-row-test.true c.count-row.result c.count-row.ensures here higher c.split-at.ensures.front c.split-at.ensures.back)
+          (merged-so ∙ merged_is valid up c.loop-row-test.true c.count_row.result c.count_row.ensures here higher c.split_at.ensures.front c.split_at.ensures.back)
           (omega arith) _ nodes-so,
     )
 

@@ -5,4 +5,4 @@ use Rattle.compression.proofs.tally.TallyCompression.leaf.Goals as goal
 
 pub returns : goal.returns
 returns c =
-    c.from-bytes.ensures ∙ ap value_in (c.add-one-to-each.ensures ∙ ap (map leaf_byte) c.to-bytes-bytes.ensures)
+    c.from_bytes.ensures ∙ ap value_in (c.add_one_to_each.ensures ∙ ap (map leaf_byte) c.to_bytes-bytes.ensures)

@@ -19,23 +19,23 @@ returns-in-default c =
     refused_unordered c.args.count c.args.positions.now c.args.coins.now c.if-positions-gt32.false c.if-positions-coins.false
     (lone_cause 4 (not (ascending (numbers c.args.positions.now))) (number c.in-default.field-0) c.in-default.ensures)
 
-pub returns-in-default-place-all : goal.returns-in-default-place-all
-returns-in-default-place-all c =
+pub returns-in-default-place_all : goal.returns-in-default-place_all
+returns-in-default-place_all c =
     let ordered = (free (cause 4 (not (ascending (numbers c.args.positions.now))) ∷ []) c.in-Ok.ensures.0).0 in
-    refused_astray c.args.count c.args.positions.now c.args.coins.now c.if-positions-gt32.false c.if-positions-coins.false ordered c.in-default-place-all.ensures
+    refused_astray c.args.count c.args.positions.now c.args.coins.now c.if-positions-gt32.false c.if-positions-coins.false ordered c.in-default-place_all.ensures
 
-pub returns-then-any-above : goal.returns-then-any-above
-returns-then-any-above c =
+pub returns-then-any_above : goal.returns-then-any_above
+returns-then-any_above c =
     let ordered = (free (cause 4 (not (ascending (numbers c.args.positions.now))) ∷ []) c.in-Ok.ensures.0).0 in
     let located = c.in-Some.ensures in
     refused_over c.args.count c.args.positions.now c.args.coins.now c.if-positions-gt32.false c.if-positions-coins.false ordered located.all_inside
-    (targets c.as-slice.result.now) (ap targets c.as-slice.ensures.value ∙ located.are) c.if-any-above.ensures
+    (targets c.as_slice.result.now) (ap targets c.as_slice.ensures.value ∙ located.are) c.if-any_above.ensures
 
 pub invariant-of-result : goal.invariant-of-result
 invariant-of-result c =
     let ordered = (free (cause 4 (not (ascending (numbers c.args.positions.now))) ∷ []) c.in-Ok.ensures.0).0 in
     let located = c.in-Some.ensures in
-    let apart : false ≡ above_another (targets (listed c.in-Some.spends)) = c.if-any-above.ensures ∙ ap (λ ss. above_another (targets ss)) c.as-slice.ensures.value in (
+    let apart : false ≡ above_another (targets (listed c.in-Some.spends)) = c.if-any_above.ensures ∙ ap (λ ss. above_another (targets ss)) c.as_slice.ensures.value in (
       placed_valid c.args.count c.args.positions.now c.args.coins.now c.if-positions-gt32.false c.if-positions-coins.false ordered located.all_inside
           (targets (listed c.in-Some.spends)) located.are apart (omega arith),
       tt,
@@ -46,6 +46,6 @@ returns c =
     let ordered = (free (cause 4 (not (ascending (numbers c.args.positions.now))) ∷ []) c.in-Ok.ensures.0).0 in
     let located = c.in-Some.ensures in (
       refused_not c.args.count c.args.positions.now c.args.coins.now c.if-positions-gt32.false c.if-positions-coins.false ordered located.all_inside
-          (targets c.as-slice.result.now) (ap targets c.as-slice.ensures.value ∙ located.are) c.if-any-above.ensures,
+          (targets c.as_slice.result.now) (ap targets c.as_slice.ensures.value ∙ located.are) c.if-any_above.ensures,
       record { forest = refl; named_so = located.are },
     )
