@@ -1,5 +1,5 @@
 -- A number is read byte by byte.
-use Rattle.std.proofs.Common.{◌≡◌, ℕ, suc, ◌+◌, ◌*◌, ◌≤◌, List, length, get_or, take, drop, ap, arith}
+use Rattle.std.proofs.Common.{◌≡◌, ℕ, suc, ◌+◌, ◌*◌, ◌≤◌, length, get_or, take, ap, arith}
 use Rattle.std.proofs.lemmas.List.{drop_more}
 use Rattle.utreexo.specs.Bytes.{Bytes, part, number_in}
 

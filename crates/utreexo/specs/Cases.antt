@@ -11,8 +11,8 @@ use Rattle.utreexo.specs.Tally.{tally}
 use Rattle.utreexo.specs.Forest.{Slots, bit, roots_of}
 use Rattle.utreexo.specs.Blocks.{composed}
 use Rattle.utreexo.specs.Checks.{refusal, Answer, granted, refused, read_causes}
-use Rattle.utreexo.specs.Wallet.{Held, View, position_of, take_causes, view_after, empty_view, add_all, Call, take_block, check_block, watch, let_go, show, take_back, wallet_step}
-use Rattle.utreexo.specs.Collection.{held_at, slots_after, view_of, challenge, Verdict, unjudged, stands, differs}
+use Rattle.utreexo.specs.Wallet.{View, position_of, take_causes, view_after, empty_view, add_all, Call, take_block, check_block, watch, let_go, show, take_back, wallet_step}
+use Rattle.utreexo.specs.Collection.{held_at, slots_after, challenge, Verdict, unjudged, stands, differs}
 use Rattle.utreexo.specs.Register.{register_step}
 use Rattle.utreexo.specs.Promise.{wallet_run, register_run}
 

@@ -1,5 +1,5 @@
 -- Small functions on lists, with a test in place of a proposition.
-use Rattle.std.specs.Prelude.{ℕ, zero, suc, Bool, true, false, cond, ◌||◌, List, [], ◌∷◌, ◌++◌, Some, None, Option}
+use Rattle.std.specs.Prelude.{ℕ, zero, suc, Bool, false, cond, ◌||◌, List, [], ◌∷◌, ◌++◌, Some, None, Option}
 
 -- the numbers 0 to k - 1, ascending
 abbrev pub below : ℕ → List ℕ
