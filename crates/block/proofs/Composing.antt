@@ -1,7 +1,7 @@
 -- A block's parts, written one after the other, are the block.
 use Rattle.std.proofs.Common.{◌≡◌, ℕ, suc, ◌+◌, ◌*◌, ◌<◌, ◌≤◌, List, [], ◌∷◌, ◌++◌, map, length, Some, None, sym, refl, ap, ◌∙◌, arith, length-append}
 use mathlib.Core.List.{map-map}
-use lib.ListN.{length_map}
+use lib.ListN.{length-map}
 use Rattle.utreexo.specs.declared.types.Coin.{Coin}
 use Rattle.utreexo.specs.declared.types.Position.{Position}
 use Rattle.utreexo.specs.declared.types.Value.{Value}
@@ -74,7 +74,7 @@ module _ (ts : List Position) (ss : List Coin) (hs : List Value) (cs : List Coin
   -- the causes go by the number of targets
   by_targets : compose (numbers ts) ss hs cs out ≡ output causes (composed (block_of ts ss hs cs)) out
   by_targets = ap (λ t. output (compose_causes t (length ss) (length hs) (length cs)) (composed (block_of ts ss hs cs)) out)
-      (length_map ts (λ p. p.number))
+      (length-map ts (λ p. p.number))
 
   pub compose_refused : (k : ℕ) → refusal causes ≡ Some k → refused k ≡ compose (numbers ts) ss hs cs out
   compose_refused k e = sym (by_targets ∙ output_refused causes (composed (block_of ts ss hs cs)) out k e)

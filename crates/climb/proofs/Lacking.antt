@@ -1,6 +1,6 @@
 -- The loops that find the needed positions.
 use Rattle.std.proofs.Common.{◌≡◌, ℕ, zero, suc, ◌+◌, ◌-◌, ◌*◌, ◌/◌, ◌^◌, ◌<◌, ◌≤◌, Bool, true, false, cond, List, [], ◌∷◌, ◌++◌, map, length, get_or, take, drop, Some, None, sym, refl, ap, ◌∙◌, subst, arith}
-use Rattle.std.proofs.lemmas.List.{drop_more, drop_all, drop-drop, length-drop, append_assoc, append-nil, length_push, length_map, length-append}
+use Rattle.std.proofs.lemmas.List.{drop_more, drop_all, drop-drop, length-drop, append_assoc, append-nil, length_push, length-map, length-append}
 use Rattle.utreexo.specs.declared.types.Value.{Value}
 use Rattle.utreexo.specs.Values.{Image}
 use Rattle.utreexo.specs.Forest.{Node, at_node, position}
@@ -131,9 +131,9 @@ module _ {n : ℕ} {ts : List Target} {r : ℕ} {nodes : List Node} where
       let row : places merged ≡ full n ts r = ap places me ∙ places_entries image p r (full n ts r) in
       let xs : List ℕ = lones (n / 2 ^ r) (places merged) in
       let a = ap length ne ∙ length-append nodes (map (at_node r) xs) in
-      let b = length_map xs (at_node r) in
+      let b = length-map xs (at_node r) in
       let c = length_lones (n / 2 ^ r) (places merged) in
-      let d = length_map merged (λ x. x.place) in
+      let d = length-map merged (λ x. x.place) in
       let w = was.few in
       record {
         few = omega arith;

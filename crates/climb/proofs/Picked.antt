@@ -33,9 +33,9 @@ abbrev pub Fits : Proof → List Value → ℕ → ℕ → List ℕ → Type 0
 Fits p hs r k [] = Unit {0}
 Fits p hs r k (q ∷ qs) = (p.hash r q ≡ get_or hs k no_value) × Fits p hs r (k + 1) qs
 
-length_map : {A B : Type 0} (f : A → B) (xs : List A) → length (map f xs) ≡ length xs
-length_map f [] = refl
-length_map f (x ∷ xs) = ap suc (length_map f xs)
+length-map : {A B : Type 0} (f : A → B) (xs : List A) → length (map f xs) ≡ length xs
+length-map f [] = refl
+length-map f (x ∷ xs) = ap suc (length-map f xs)
 
 module _ {n : ℕ} {ts : List Target} (v : Valid n ts) (hs : List Value) where
   abbrev proof : Proof
@@ -68,7 +68,7 @@ module _ {n : ℕ} {ts : List Target} (v : Valid n ts) (hs : List Value) where
 
   pub done_length : (r : ℕ) → used n ts r ≡ length (done r)
   done_length zero = refl
-  done_length (suc r) = let a = length-append (done r) (numbers n ts r) in let b = length_map (position n r) (absent n ts r) in let c = done_length r in omega arith
+  done_length (suc r) = let a = length-append (done r) (numbers n ts r) in let b = length-map (position n r) (absent n ts r) in let c = done_length r in omega arith
 
   -- the k-th hash is that of the k-th needed position, row by row
   pub row_fits : (r : ℕ) → r < 32 → Fits proof hs r (used n ts r) (absent n ts r)

@@ -1,6 +1,6 @@
 -- The numbers from a on, and the numbers below k.
 use Rattle.std.proofs.Common.{◌≡◌, ℕ, zero, suc, ◌+◌, ◌-◌, ◌<◌, ◌≤◌, cond, eqb, [], ◌∷◌, ◌++◌, map, length, get_or, set, sym, refl, ap, ◌∙◌, ap₂, inl, inr, arith}
-use lib.ListN.{length_map}
+use lib.ListN.{length-map}
 use Rattle.std.proofs.lemmas.Bool.{eq-eqb, ne_eqb}
 use Rattle.utreexo.specs.Lists.{below}
 use Rattle.laws.proofs.Order.{Mem, From, range}
@@ -51,7 +51,7 @@ pub length_below : (n : ℕ) → length (below n) ≡ n
 length_below n = ap length (below_range n) ∙ length_range 0 n
 
 pub length_map_below : {A : Type 0} (f : ℕ → A) (n : ℕ) → length (map f (below n)) ≡ n
-length_map_below f n = length_map (below n) f ∙ length_below n
+length_map_below f n = length-map (below n) f ∙ length_below n
 
 pub get_or_range : {A : Type 0} (f : ℕ → A) (d : A) (a n k : ℕ) → k < n → get_or (map f (range a n)) k d ≡ f (a + k)
 get_or_range f d a zero k l = absurd (omega arith)

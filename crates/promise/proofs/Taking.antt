@@ -1,6 +1,6 @@
 -- A block taken: the wallet's view follows the register's, and the two answers agree or the block is caught.
 use Rattle.std.proofs.Common.{◌≡◌, ℕ, ◌+◌, ◌-◌, ◌^◌, ◌<◌, true, cond, not, ltb, ◌⊎◌, List, [], ◌∷◌, map, length, get_or, Some, None, sym, refl, ap, ◌∙◌, ap₂, inl, inr, arith, length-append}
-use lib.ListN.{length_map, get_or-append}
+use lib.ListN.{length-map, get_or-append}
 use Rattle.std.proofs.lemmas.Bool.{not-false, not-true, ltb-false}
 use Rattle.utreexo.specs.declared.types.Coin.{Coin}
 use Rattle.utreexo.specs.Bytes.{Bytes}
@@ -102,7 +102,7 @@ module _ (image : Image) (s : Slots) (ws : List ℕ) (bs : Bytes) (small : lengt
     pub taken_sound : Once ws → Sound (collection (slots_after image bs s) remaining)
     taken_sound once =
         let l = length-append rest (map (λ c. Some c) (entries bs).coins) in
-        let m = length_map (entries bs).coins (λ c. Some c) in
+        let m = length-map (entries bs).coins (λ c. Some c) in
         let r = rest_room in
         record {
           small = omega arith;

@@ -1,6 +1,6 @@
 -- A block that a bridge writes: a wallet of the same slots takes it, and so does the bridge.
 use Rattle.std.proofs.Common.{◌≡◌, ℕ, zero, suc, ◌+◌, ◌-◌, ◌^◌, ◌<◌, ◌≤◌, Bool, true, false, cond, not, eqb, ltb, leb, List, [], ◌∷◌, ◌++◌, length, drop, is_some, None, sym, refl, ap, ◌∙◌, subst, arith, pow_mono}
-use lib.ListN.{length_map}
+use lib.ListN.{length-map}
 use Rattle.std.specs.List.{AllByRecursion as All}
 use Rattle.std.proofs.ByRecursion.{All-map}
 use Rattle.std.proofs.lemmas.Bool.{or_parts, ltb-false, le-ltb, eq-eqb, not_from_true, not-false}
@@ -110,7 +110,7 @@ module _ (image : Image) (s : Slots) (image-fits : ImageFits image) (slots-fit :
   fitting = record {
     same = sym e;
     few_spent = omega (arith, few.0, e);
-    few_hashes = (let a = length_map (needed (length s) ts) (fresh_value image s) in
+    few_hashes = (let a = length-map (needed (length s) ts) (fresh_value image s) in
         let b = needed_few image s write_small ts [] in
         let c = named_few image s ps (coins_at image s ps) in
         omega (arith, few.0));
@@ -123,7 +123,7 @@ module _ (image : Image) (s : Slots) (image-fits : ImageFits image) (slots-fit :
   }
     where
       e : length (coins_at image s ps) ≡ length ps
-      e = length_map ps (coin_of image s)
+      e = length-map ps (coin_of image s)
 
       position_fits : (p : ℕ) → LiveNamed image s p → p < 2 ^ 64
       position_fits p n =
@@ -150,7 +150,7 @@ module _ (image : Image) (s : Slots) (image-fits : ImageFits image) (slots-fit :
   as_many : not (eqb (length (fresh image s ts)) (length (needed (length s) ts))) ≡ false
   as_many =
       not_from_true (eqb (length (fresh image s ts)) (length (needed (length s) ts)))
-      (eq-eqb (length (fresh image s ts)) (length (needed (length s) ts)) (length_map (needed (length s) ts) (fresh_value image s)))
+      (eq-eqb (length (fresh image s ts)) (length (needed (length s) ts)) (length-map (needed (length s) ts) (fresh_value image s)))
 
   within : (most : ℕ) → length s + length cs ≤ most → ltb most (length s + length as_read.coins) ≡ false
   within most l = ap (λ z. ltb most (length s + z)) (coins_read_length block fitting) ∙ le-ltb most (length s + length cs) l

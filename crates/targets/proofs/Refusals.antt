@@ -1,7 +1,7 @@
 -- The refusals of positions, in their order.
 use Rattle.std.proofs.Common.{◌≡◌, ℕ, ◌^◌, ◌<◌, ◌≤◌, true, false, not, eqb, ltb, List, [], ◌∷◌, length, Some, None, sym, ap, ◌∙◌, arith}
 use Rattle.std.proofs.lemmas.Bool.{lt-ltb, le-ltb, eq-eqb, ne_eqb, not-false}
-use Rattle.std.proofs.lemmas.List.{length_map}
+use Rattle.std.proofs.lemmas.List.{length-map}
 use Rattle.utreexo.specs.declared.types.Coin.{Coin}
 use Rattle.utreexo.specs.declared.types.Position.{Position}
 use Rattle.utreexo.specs.Lists.{any}
@@ -19,7 +19,7 @@ module _ (n : ℕ) (positions : List Position) (cs : List Coin) where
   ps = numbers positions
 
   size : length ps ≡ length positions
-  size = length_map positions (λ p. p.number)
+  size = length-map positions (λ p. p.number)
 
   abbrev many : Cause
   many = cause 2 (ltb 32 (length ps))

@@ -2,7 +2,7 @@ use Rattle.std.proofs.Common.{◌≡◌, ◌/◌, ◌^◌, ◌<◌, List, length
 use Rattle.targets.specs.declared.spend.Spend.{Spend}
 use Rattle.targets.specs.Targets.{placed}
 use Rattle.targets.proofs.Valid.{Valid, valid_is}
-use Rattle.std.proofs.lemmas.List.{length_map}
+use Rattle.std.proofs.lemmas.List.{length-map}
 use Rattle.climb.specs.declared.item.Item.{Item}
 use Rattle.climb.specs.Rows.{merge, left_of, step}
 use Rattle.climb.specs.Held.{held, spents, hashes_in}
@@ -11,7 +11,7 @@ use Rattle.climb.proofs.climb.climb.Goals as goal
 
 pub loop-row-init : goal.loop-row-init
 loop-row-init g c =
-    standing_none c.empty-carried.ensures c.as_slice-left.ensures.value c.as_slice-left.ensures.few c.told-roots (length_map c.args.after.now.rows held ∙ c.args.after.now.whole)
+    standing_none c.empty-carried.ensures c.as_slice-left.ensures.value c.as_slice-left.ensures.few c.told-roots (length-map c.args.after.now.rows held ∙ c.args.after.now.whole)
 
 pub loop-row-preserved : goal.loop-row-preserved
 loop-row-preserved g c =

@@ -1,5 +1,5 @@
 use Rattle.std.proofs.Common.{◌≡◌, ◌<◌, ◌≤◌, List, [], length, sym, ap, ◌∙◌, arith}
-use Rattle.std.proofs.lemmas.List.{get_or-map, get_or_past, length_map}
+use Rattle.std.proofs.lemmas.List.{get_or-map, get_or_past, length-map}
 use Rattle.climb.specs.declared.item.Item.{Item}
 use Rattle.climb.specs.Rows.{lookup}
 use Rattle.climb.specs.Held.{held}
@@ -9,7 +9,7 @@ use Rattle.climb.proofs.after.AfterValues.at.Goals as goal
 pub returns-then-row-ge32 : goal.returns-then-row-ge32
 returns-then-row-ge32 c =
     let t = c.args.self.now in
-    let size = length_map t.rows held ∙ t.whole in
+    let size = length-map t.rows held ∙ t.whole in
     ap (λ (l : List Item). left_at (lookup l c.args.place)) (sym (get_or_past (row_lists t) c.args.row [] (omega arith)))
 
 pub returns-in-None : goal.returns-in-None
