@@ -1,5 +1,5 @@
 -- The after_value at a root is the value of the tree with the targets' slots blanked.
-use Rattle.std.proofs.Common.{◌≡◌, ℕ, zero, suc, ◌+◌, ◌-◌, ◌*◌, Bool, true, false, cond, ◌||◌, is_some, Some, None, Option, sym, refl, ap, ◌∙◌, arith}
+use Rattle.std.proofs.Common.{◌≡◌, ℕ, zero, suc, ◌+◌, ◌*◌, Bool, true, false, cond, ◌||◌, is_some, Some, None, Option, sym, refl, ap, ◌∙◌, arith}
 use Rattle.laws.proofs.Place.{up}
 use Rattle.laws.proofs.Places.{half_even, half_odd, mod_even, mod_odd}
 use Rattle.laws.proofs.Tree.{map_o, Preimage, of_coin, Tree, coin, fork, merge, grow, subtree, struck, place}

@@ -1,5 +1,5 @@
 -- The whole forest: a proof that fits and nowhere differs gives the new roots and the new paths.
-use Rattle.std.proofs.Common.{◌≡◌, ℕ, ◌+◌, ◌-◌, ◌<◌, true, Some, None, Option, sym, refl, ap, ◌∙◌, subst, arith}
+use Rattle.std.proofs.Common.{◌≡◌, ℕ, ◌+◌, ◌<◌, true, Some, None, Option, sym, refl, ap, ◌∙◌, subst, arith}
 use Rattle.laws.proofs.Logic.{never}
 use Rattle.laws.proofs.Place.{up}
 use Rattle.laws.proofs.Tree.{map_o, Preimage, Tree, coin, grow, struck, place, subtree_o}

@@ -1,5 +1,5 @@
 -- A position is covered if and only if a target lies at it or beneath it.
-use Rattle.std.proofs.Common.{◌≡◌, ℕ, zero, suc, ◌+◌, ◌-◌, ◌*◌, ◌/◌, true, false, Some, None, Option, sym, refl, ap, ◌∙◌, subst, inl, inr, arith}
+use Rattle.std.proofs.Common.{◌≡◌, ℕ, zero, suc, ◌+◌, ◌*◌, ◌/◌, true, false, Some, None, Option, sym, refl, ap, ◌∙◌, subst, inl, inr, arith}
 use Rattle.laws.proofs.Logic.{or_split, true_false, or_true}
 use Rattle.laws.proofs.Place.{up}
 use Rattle.laws.proofs.Places.{by_half, half_even, half_odd, up_suc}

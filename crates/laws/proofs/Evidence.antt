@@ -1,5 +1,5 @@
 -- Where a proof fits but does not match, the highest difference shows two inputs with one image.
-use Rattle.std.proofs.Common.{◌≡◌, ℕ, zero, suc, ◌+◌, ◌-◌, ◌*◌, ◌/◌, ◌<◌, Bool, true, false, cond, ◌||◌, Some, None, Option, sym, refl, ap, ◌∙◌, arith}
+use Rattle.std.proofs.Common.{◌≡◌, ℕ, zero, suc, ◌+◌, ◌*◌, ◌/◌, ◌<◌, Bool, true, false, cond, ◌||◌, Some, None, Option, sym, refl, ap, ◌∙◌, arith}
 use Rattle.laws.proofs.Logic.{never, or_true}
 use Rattle.laws.proofs.Place.{up}
 use Rattle.laws.proofs.Places.{by_half, half_even, half_odd, mod_even, mod_odd}

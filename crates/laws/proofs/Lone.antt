@@ -5,7 +5,7 @@ use Rattle.utreexo.specs.declared.types.Coin.{Coin}
 use Rattle.utreexo.specs.declared.types.Value.{Value}
 use Rattle.utreexo.specs.Lists.{below, filter}
 use Rattle.utreexo.specs.Values.{Image}
-use Rattle.utreexo.specs.Forest.{Slots, at_node, position, rows}
+use Rattle.utreexo.specs.Forest.{Slots, at_node, position}
 use Rattle.utreexo.specs.Claims.{Target, beneath, needed}
 use Rattle.utreexo.specs.Collection.{slot_has, held_at, fresh, fresh_value, spent_slot, slot_held}
 use Rattle.laws.specs.Laws.{PathsFresh}

@@ -1,5 +1,5 @@
 -- A claim with right targets and fresh hashes matches its tree, and what matches fits.
-use Rattle.std.proofs.Common.{◌≡◌, ℕ, zero, suc, ◌+◌, ◌-◌, ◌*◌, ◌%◌, Bool, true, false, ◌||◌, ◌⊎◌, Some, None, Option, refl, ap, subst, ap₂, inl, inr, arith}
+use Rattle.std.proofs.Common.{◌≡◌, ℕ, zero, suc, ◌+◌, ◌*◌, ◌%◌, Bool, true, false, ◌||◌, ◌⊎◌, Some, None, Option, refl, ap, subst, ap₂, inl, inr, arith}
 use Rattle.laws.proofs.Logic.{never, or_split, or_flip, true_false}
 use Rattle.laws.proofs.Place.{up, sib}
 use Rattle.laws.proofs.Places.{half_even, half_odd, mod_even, mod_odd, sib_even, sib_odd}

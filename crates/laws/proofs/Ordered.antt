@@ -1,5 +1,5 @@
 -- Strictly ascending lists are known by their members.
-use Rattle.std.proofs.Common.{◌≡◌, ℕ, suc, ◌-◌, ◌≤◌, Bool, true, false, cond, ◌⊎◌, List, [], ◌∷◌, refl, ap₂, inl, inr, arith}
+use Rattle.std.proofs.Common.{◌≡◌, ℕ, suc, ◌≤◌, Bool, true, false, cond, ◌⊎◌, List, [], ◌∷◌, refl, ap₂, inl, inr, arith}
 use Rattle.utreexo.specs.Lists.{filter}
 use Rattle.laws.proofs.Order.{Mem, From}
 

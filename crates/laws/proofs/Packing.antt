@@ -1,5 +1,5 @@
 -- Numbers as bytes, least byte first, and back; lists of equal parts.
-use Rattle.std.proofs.Common.{◌≡◌, ℕ, zero, suc, ◌+◌, ◌-◌, ◌*◌, ◌/◌, ◌%◌, ◌^◌, ◌<◌, ◌≤◌, List, [], ◌∷◌, ◌++◌, map, length, get_or, take, drop, sym, refl, ap, ◌∙◌, ap₂, append_assoc, append-nil, pow-suc, mul-zero, mul-suc, arith, length-append, length-drop, length-take-le, drop-drop, take_at, ext_get_or, take-add}
+use Rattle.std.proofs.Common.{◌≡◌, ℕ, zero, suc, ◌+◌, ◌*◌, ◌/◌, ◌%◌, ◌^◌, ◌<◌, ◌≤◌, List, [], ◌∷◌, ◌++◌, map, length, get_or, take, drop, sym, refl, ap, ◌∙◌, ap₂, append_assoc, append-nil, pow-suc, mul-zero, mul-suc, arith, length-append, length-drop, length-take-le, drop-drop, take_at, ext_get_or, take-add}
 use lib.Seq.{drop-append-add}
 use Rattle.std.specs.List.{AllByRecursion as All}
 use Rattle.std.proofs.ByRecursion.{All-take, All-drop, All-get_or}

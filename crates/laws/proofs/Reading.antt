@@ -1,5 +1,5 @@
 -- The counts of bytes that read as a block.
-use Rattle.std.proofs.Common.{◌≡◌, ℕ, ◌+◌, ◌*◌, ◌≤◌, ◌||◌, eqb, ltb, length, None}
+use Rattle.std.proofs.Common.{◌≡◌, ℕ, ◌+◌, ◌*◌, ◌≤◌, ◌||◌, ltb, length, None}
 use Rattle.std.proofs.lemmas.Bool.{ltb-false, eqb-true, or_parts, not-false}
 use Rattle.utreexo.specs.Bytes.{Bytes}
 use Rattle.utreexo.specs.Blocks.{spent_count, hash_count, coin_count}

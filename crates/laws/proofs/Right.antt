@@ -1,5 +1,5 @@
 -- A claim that matches, read by position: every target is a live slot's, and every hash is fresh.
-use Rattle.std.proofs.Common.{◌≡◌, ℕ, zero, suc, ◌+◌, ◌-◌, ◌*◌, ◌/◌, true, false, Some, None, Option, sym, refl, ap, ◌∙◌, arith}
+use Rattle.std.proofs.Common.{◌≡◌, ℕ, zero, suc, ◌+◌, ◌*◌, ◌/◌, true, false, Some, None, Option, sym, refl, ap, ◌∙◌, arith}
 use Rattle.laws.proofs.Place.{up, sib}
 use Rattle.laws.proofs.Places.{by_half, half_even, half_odd, mod_even, mod_odd, sib_half}
 use Rattle.laws.proofs.Tree.{Preimage, Tree, coin, fork, subtree}

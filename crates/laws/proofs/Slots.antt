@@ -1,5 +1,5 @@
 -- Live slots, and the slots that are left by a block.
-use Rattle.std.proofs.Common.{◌≡◌, ℕ, zero, suc, ◌-◌, ◌<◌, true, cond, List, [], ◌∷◌, map, length, get_or, Some, None, Option, sym, refl, arith}
+use Rattle.std.proofs.Common.{◌≡◌, ℕ, zero, suc, ◌<◌, true, cond, List, [], ◌∷◌, map, length, get_or, Some, None, Option, sym, refl, arith}
 use Rattle.utreexo.specs.declared.types.Coin.{Coin}
 use Rattle.utreexo.specs.Lists.{below, any}
 use Rattle.utreexo.specs.Values.{Image}

@@ -1,5 +1,5 @@
 -- Where a run's tree is in the tree above it, and which run's tree is at a place.
-use Rattle.std.proofs.Common.{◌≡◌, ℕ, zero, suc, ◌+◌, ◌-◌, ◌*◌, ◌/◌, ◌%◌, ◌<◌, ◌⊎◌, Some, None, Option, sym, refl, ap, ◌∙◌, subst, inl, inr, arith}
+use Rattle.std.proofs.Common.{◌≡◌, ℕ, zero, suc, ◌+◌, ◌*◌, ◌/◌, ◌%◌, ◌<◌, ◌⊎◌, Some, None, Option, sym, refl, ap, ◌∙◌, subst, inl, inr, arith}
 use Rattle.laws.proofs.Logic.{never}
 use Rattle.laws.proofs.Place.{up, sib}
 use Rattle.laws.proofs.Places.{by_half, half_even, half_odd, mod_even, mod_odd, sib_even, sib_odd, with_bit_half, with_bit_mod}
