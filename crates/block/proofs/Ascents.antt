@@ -1,8 +1,7 @@
 -- Ascending numbers: one seen, and none left.
-use Rattle.std.proofs.Common.{◌≡◌, ℕ, ◌+◌, ◌<◌, ◌≤◌, Bool, true, false, not, ◌&&◌, List, [], ◌∷◌, map, length, get_or, drop, Some, None, Option, sym, refl, ap, ◌∙◌}
+use Rattle.std.proofs.Common.{◌≡◌, ℕ, ◌+◌, ◌<◌, ◌≤◌, Bool, true, ◌&&◌, List, [], ◌∷◌, length, get_or, drop, Some, None, Option, sym, refl, ap, ◌∙◌}
 use Rattle.std.proofs.lemmas.List.{drop_more, drop_all}
 use Rattle.utreexo.specs.declared.types.Position.{Position}
-use Rattle.utreexo.specs.Blocks.{ascending}
 use Rattle.block.specs.Ascending.{above, ascends_after}
 use Rattle.block.specs.Compose.{numbers}
 

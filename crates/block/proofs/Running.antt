@@ -1,8 +1,8 @@
 -- The reader's run over a readable block.
-use Rattle.std.proofs.Common.{◌≡◌, ℕ, zero, suc, ◌+◌, ◌-◌, ◌*◌, ◌<◌, ◌≤◌, Bool, true, false, cond, not, ◌||◌, eqb, ltb, List, [], ◌∷◌, ◌++◌, map, length, take, drop, Some, None, sym, refl, ap, ◌∙◌, subst, ap₂, append_assoc, append-nil, mul-le-mul_left, mul-zero, zero-add, mul-suc, arith, length-drop, take-append-drop, take_all, drop-drop, take-add}
+use Rattle.std.proofs.Common.{◌≡◌, ℕ, zero, suc, ◌+◌, ◌*◌, ◌<◌, ◌≤◌, Bool, true, false, cond, not, ◌||◌, eqb, ltb, List, [], ◌∷◌, ◌++◌, map, length, take, drop, None, sym, refl, ap, ◌∙◌, ap₂, append-nil, mul-le-mul_left, mul-zero, zero-add, mul-suc, arith, length-drop, take-append-drop, take_all, drop-drop, take-add}
 use mathlib.Core.List.{map-map}
 use Rattle.std.proofs.lemmas.Bool.{lt-ltb, le-ltb, eqb-true, not-false}
-use Rattle.std.proofs.lemmas.List.{drop_all, map-append}
+use Rattle.std.proofs.lemmas.List.{map-append}
 use Rattle.laws.proofs.Order.{range}
 use Rattle.laws.proofs.Ranges.{below_range}
 use Rattle.laws.proofs.Packing.{concat_append}

@@ -1,5 +1,5 @@
 -- What a block with no early cause is known to be; a genuine block fits, and one that fits is genuine or caught.
-use Rattle.std.proofs.Common.{◌≡◌, ◌+◌, ◌-◌, ◌^◌, ◌<◌, Bool, true, false, not, eqb, ◌⊎◌, List, [], ◌∷◌, ◌++◌, length, is_some, Some, None, sym, ap, subst, inl, inr}
+use Rattle.std.proofs.Common.{◌≡◌, ◌^◌, ◌<◌, Bool, true, false, not, eqb, ◌⊎◌, List, [], ◌∷◌, ◌++◌, length, is_some, Some, None, sym, ap, subst, inl, inr}
 use Rattle.std.proofs.lemmas.Bool.{not-false, not-true, and_parts, and_from, eqb-true}
 use Rattle.utreexo.specs.Bytes.{Bytes}
 use Rattle.utreexo.specs.Lists.{any}

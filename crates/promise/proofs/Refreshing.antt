@@ -1,5 +1,5 @@
 -- What is on the shelf after a genuine block: the paths refreshed, the spent ones gone.
-use Rattle.std.proofs.Common.{◌≡◌, ℕ, zero, suc, ◌+◌, ◌-◌, ◌/◌, ◌%◌, ◌^◌, ◌<◌, Bool, true, false, cond, not, List, [], ◌∷◌, ◌++◌, map, length, get_or, Some, None, Option, sym, refl, ap, ◌∙◌, subst, ap₂, inl, inr, add-one, arith}
+use Rattle.std.proofs.Common.{◌≡◌, ℕ, zero, suc, ◌+◌, ◌/◌, ◌%◌, ◌^◌, ◌<◌, Bool, true, false, cond, not, List, [], ◌∷◌, ◌++◌, map, length, get_or, Some, None, Option, sym, refl, ap, ◌∙◌, subst, ap₂, inl, inr, add-one, arith}
 use Rattle.std.proofs.lemmas.Bool.{or_left}
 use Rattle.utreexo.specs.declared.types.Coin.{Coin}
 use Rattle.utreexo.specs.declared.types.Value.{Value}
@@ -15,7 +15,7 @@ use Rattle.laws.proofs.Members.{any_mem, mem_any}
 use Rattle.laws.proofs.Place.{up, sib}
 use Rattle.laws.proofs.Places.{up_add}
 use Rattle.laws.proofs.Slots.{slot_low, left, length_left, left_at}
-use Rattle.laws.proofs.Tree.{Tree, coin, grow, child, subtree, count_struck, with_bit, place}
+use Rattle.laws.proofs.Tree.{Tree, coin, grow, child, subtree, count_struck, with_bit}
 use Rattle.laws.proofs.Value.{push_o, path}
 use Rattle.laws.proofs.Claim.{claim, newer, refresh, rise, shift}
 use Rattle.laws.proofs.Forest.{slot_of, row_of_tree}

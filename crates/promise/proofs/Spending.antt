@@ -1,5 +1,5 @@
 -- The slots that a genuine block leaves, and their roots.
-use Rattle.std.proofs.Common.{◌≡◌, ℕ, ◌-◌, ◌^◌, ◌<◌, ◌≤◌, Bool, true, false, cond, ◌&&◌, List, map, length, get_or, is_some, Some, None, Option, sym, refl, ap, ◌∙◌, subst, ap₂, inl, inr, arith}
+use Rattle.std.proofs.Common.{◌≡◌, ℕ, ◌^◌, ◌<◌, ◌≤◌, Bool, true, false, cond, ◌&&◌, List, map, length, get_or, is_some, Some, None, Option, sym, refl, ap, ◌∙◌, subst, ap₂, inl, inr, arith}
 use mathlib.Core.Path.{fun_ext}
 use lib.ListN.{get_or-eq_default}
 use Rattle.std.proofs.lemmas.Bool.{cases_lt}
@@ -14,7 +14,6 @@ use Rattle.laws.proofs.Logic.{never, true_false, iff_bool}
 use Rattle.laws.proofs.Members.{any_mem, mem_any, map_ext}
 use Rattle.laws.proofs.Ranges.{get_or_below, mem_below}
 use Rattle.laws.proofs.Slots.{left, length_left, left_at}
-use Rattle.laws.proofs.Tree.{place}
 use Rattle.laws.proofs.Value.{value_under}
 use Rattle.laws.proofs.Claim.{covers, claim, asserted, after_value, Assertion}
 use Rattle.laws.proofs.Forest.{slot_of, Top, spends, renew}

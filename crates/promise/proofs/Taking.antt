@@ -1,5 +1,5 @@
 -- A block taken: the wallet's view follows the register's, and the two answers agree or the block is caught.
-use Rattle.std.proofs.Common.{◌≡◌, ℕ, ◌+◌, ◌-◌, ◌^◌, ◌<◌, true, cond, not, ltb, ◌⊎◌, List, [], ◌∷◌, map, length, get_or, Some, None, sym, refl, ap, ◌∙◌, ap₂, inl, inr, arith, length-append}
+use Rattle.std.proofs.Common.{◌≡◌, ℕ, ◌+◌, ◌^◌, ◌<◌, true, cond, not, ltb, ◌⊎◌, List, [], ◌∷◌, map, length, get_or, Some, None, sym, refl, ap, ◌∙◌, ap₂, inl, inr, arith, length-append}
 use lib.ListN.{length-map, get_or-append}
 use Rattle.std.proofs.lemmas.Bool.{not-false, not-true, ltb-false}
 use Rattle.utreexo.specs.declared.types.Coin.{Coin}

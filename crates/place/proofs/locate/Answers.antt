@@ -8,8 +8,8 @@ deep c =
     counted c.rows-rows.result c.args.position.number c.highest_bit-depth.result c.rows-rows.ensures.low c.if-position-end.false
     c.highest_bit-depth.ensures.high_bound c.highest_bit-depth.ensures.low_bound
 
-pub overflow-sub-end : goal.overflow-sub-end
-overflow-sub-end c = omega (arith, double_shl c.rows-rows.result c.rows-rows.ensures.low, pow_pos c.rows-rows.result)
+pub overflow_sub-end : goal.overflow_sub-end
+overflow_sub-end c = omega (arith, double_shl c.rows-rows.result c.rows-rows.ensures.low, pow_pos c.rows-rows.result)
 
 pub returns-then-position-end : goal.returns-then-position-end
 returns-then-position-end c =
@@ -20,17 +20,17 @@ returns-then-position-end c =
       low = tt;
     }
 
-pub overflow-sub-found : goal.overflow-sub-found
-overflow-sub-found c = (deep c).row
+pub overflow_sub-found : goal.overflow_sub-found
+overflow_sub-found c = (deep c).row
 
-pub overflow-sub-found-2 : goal.overflow-sub-found-2
-overflow-sub-found-2 c = let k = deep c in omega (arith, pow_pos c.highest_bit-depth.result)
+pub overflow_sub-found-2 : goal.overflow_sub-found-2
+overflow_sub-found-2 c = let k = deep c in omega (arith, pow_pos c.highest_bit-depth.result)
 
-pub overflow-sub-found-3 : goal.overflow-sub-found-3
-overflow-sub-found-3 c = let k = deep c in omega arith
+pub overflow_sub-found-3 : goal.overflow_sub-found-3
+overflow_sub-found-3 c = let k = deep c in omega arith
 
-pub overflow-cast-found-2 : goal.overflow-cast-found-2
-overflow-cast-found-2 c = let k = deep c in omega arith
+pub overflow_cast-found-2 : goal.overflow_cast-found-2
+overflow_cast-found-2 c = let k = deep c in omega arith
 
 pub returns-then-not-is_inside : goal.returns-then-not-is_inside
 returns-then-not-is_inside c =

@@ -2,8 +2,8 @@ use Rattle.std.proofs.Common.{◌≡◌, ◌+◌, ◌-◌, ◌^◌, ◌≤◌, a
 use Rattle.std.proofs.lemmas.Nat.{one_shl}
 use Rattle.place.proofs.number.Goals as goal
 
-pub overflow-sub-result : goal.overflow-sub-result
-overflow-sub-result c =
+pub overflow_sub-result : goal.overflow_sub-result
+overflow_sub-result c =
     let h = c.rows-height.result + 1 in
     let d = c.saturating_sub.result in
     let s = c.saturating_sub.ensures in

@@ -3,8 +3,8 @@ use Rattle.utreexo.specs.Forest.{position}
 use Rattle.place.specs.Nodes.{tree_position}
 use Rattle.place.proofs.root_position.Goals as goal
 
-pub returns-in-default : goal.returns-in-default
-returns-in-default c = ap (tree_position c.args.count) c.in-default.ensures.value
+pub returns-in_default : goal.returns-in_default
+returns-in_default c = ap (tree_position c.args.count) c.in_default.ensures.value
 
 pub returns : goal.returns
 returns c =

@@ -1,4 +1,4 @@
-use Rattle.std.proofs.Common.{◌≡◌, ◌+◌, not, ◌&&◌, [], ◌∷◌, get_or, drop, Some, sym, ap, ◌∙◌}
+use Rattle.std.proofs.Common.{◌+◌, not, ◌&&◌, [], ◌∷◌, get_or, drop, Some, sym, ap, ◌∙◌}
 use Rattle.utreexo.specs.Checks.{cause, refusal}
 use Rattle.block.specs.Ascending.{ascends_after}
 use Rattle.block.specs.Compose.{numbers}

@@ -1,4 +1,4 @@
-use Rattle.std.proofs.Common.{◌≡◌, ◌+◌, ◌-◌, ◌++◌, map, length, take, sym, ap, ◌∙◌, ap₂, add-zero, arith, take_all, rules}
+use Rattle.std.proofs.Common.{◌+◌, ◌-◌, ◌++◌, map, length, sym, ap, ◌∙◌, ap₂, add-zero, arith, take_all, rules}
 use borrow.Rule.Slice.PartMut.{put_mid}
 use Rattle.utreexo.specs.Blocks.{concat}
 use Rattle.block.specs.Compose.{placed}
@@ -8,13 +8,13 @@ use Rattle.block.proofs.packed.pack_all.Goals as goal
 pub loop-item-init : goal.loop-item-init
 loop-item-init g c = (sym (add-zero c.args.at), placed_none c.args.at c.args.out.now)
 
-pub overflow-add-end : goal.overflow-add-end
-overflow-add-end g c =
+pub overflow_add-end : goal.overflow_add-end
+overflow_add-end g c =
     let r = (next_place g.T.Packed.packed g.T.Packed.size g.met.T.Packed.sized c.args.items.now c.loop-item.item-index c.item-item.result c.args.at c.loop-item.start (length c.args.out.now) c.loop-item-test.true c.item-item.is c.requires c.loop-item.invariant.0).0 in
     search rules
 
-pub slice-bounds-pack-end : goal.slice-bounds-pack-end
-slice-bounds-pack-end g c =
+pub slice_bounds-pack-end : goal.slice_bounds-pack-end
+slice_bounds-pack-end g c =
     let r = (next_place g.T.Packed.packed g.T.Packed.size g.met.T.Packed.sized c.args.items.now c.loop-item.item-index c.item-item.result c.args.at c.loop-item.start (length c.args.out.now) c.loop-item-test.true c.item-item.is c.requires c.loop-item.invariant.0).0 in
     search rules
 

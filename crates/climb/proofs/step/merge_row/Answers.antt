@@ -9,7 +9,7 @@ pub loop-j-preserved-in-Some : goal.loop-j-preserved-in-Some
 loop-j-preserved-in-Some g c = merging_left c.loop-j.invariant _ c.loop-j-test.true _ c.in-Some.ensures _ c.push.ensures
 
 pub loop-j-preserved : goal.loop-j-preserved
-loop-j-preserved g c = merging_right c.loop-j.invariant _ c.loop-j-test.true c.in-default.ensures _ c.spent_item.ensures _ c.push-in-default.ensures
+loop-j-preserved g c = merging_right c.loop-j.invariant _ c.loop-j-test.true c.in_default.ensures _ c.spent_item.ensures _ c.push-in_default.ensures
 
 pub loop-i-preserved : goal.loop-i-preserved
 loop-i-preserved g c = merging_rest c.loop-i.invariant _ c.loop-j-test.false c.loop-i-test.true _ c.push-in-loop-i.ensures

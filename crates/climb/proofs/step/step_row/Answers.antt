@@ -10,7 +10,7 @@ loop-i-preserved-in-Some g c = going_both c.loop-i.invariant _ c.loop-i-test.tru
 
 pub loop-i-preserved : goal.loop-i-preserved
 loop-i-preserved g c =
-    going_lone c.loop-i.invariant _ c.loop-i-test.true c.if-is_top.ensures c.in-default.ensures _ c.hash_at.ensures _ _ c.above_one.ensures c.push-in-default.ensures
+    going_lone c.loop-i.invariant _ c.loop-i-test.true c.if-is_top.ensures c.in_default.ensures _ c.hash_at.ensures _ _ c.above_one.ensures c.push-in_default.ensures
 
 pub returns : goal.returns
 returns g c = let i = c.loop-i.invariant in let t = c.loop-i-test.false in record { made = going_all i t; count = omega arith; room = omega arith }

@@ -3,14 +3,14 @@ use Rattle.place.proofs.Powers.{double_shl}
 use Rattle.full_keeper.proofs.Indices.{index_sum}
 use Rattle.full_keeper.proofs.layout.index_of.Goals as goal
 
-pub overflow-sub-result-2 : goal.overflow-sub-result-2
-overflow-sub-result-2 c =
+pub overflow_sub-result-2 : goal.overflow_sub-result-2
+overflow_sub-result-2 c =
     let R = c.args.rows in
     let d = R - c.args.row in
     omega (arith, double_shl R (omega arith), double_shl d (omega arith), pow_mono {i = d} {j = R} (omega arith))
 
-pub overflow-add-result : goal.overflow-add-result
-overflow-add-result c =
+pub overflow_add-result : goal.overflow_add-result
+overflow_add-result c =
     let R = c.args.rows in
     omega (arith, double_shl R (omega arith), pow_mono {i = R} {j = 32} (omega arith))
 

@@ -4,8 +4,8 @@ use Rattle.place.proofs.Powers.{pow_less}
 use Rattle.full_keeper.proofs.Rows.{least_next}
 use Rattle.full_keeper.proofs.relay.grow.Goals as goal
 
-pub overflow-shl-rows : goal.overflow-shl-rows
-overflow-shl-rows c = omega (arith, c.requires.least.1 32 (omega arith))
+pub overflow_shl-rows : goal.overflow_shl-rows
+overflow_shl-rows c = omega (arith, c.requires.least.1 32 (omega arith))
 
 pub raise-requires : goal.raise-requires
 raise-requires c =

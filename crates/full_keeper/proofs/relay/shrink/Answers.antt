@@ -4,8 +4,8 @@ use Rattle.full_keeper.specs.Table.{Laid}
 use Rattle.full_keeper.proofs.Rows.{least_kept, least_back}
 use Rattle.full_keeper.proofs.relay.shrink.Goals as goal
 
-pub overflow-shl-rows : goal.overflow-shl-rows
-overflow-shl-rows c = omega (arith, c.requires.least.1 32 (omega arith))
+pub overflow_shl-rows : goal.overflow_shl-rows
+overflow_shl-rows c = omega (arith, c.requires.least.1 32 (omega arith))
 
 pub returns-then-count-rows : goal.returns-then-count-rows
 returns-then-count-rows c =

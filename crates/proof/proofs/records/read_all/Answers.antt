@@ -9,8 +9,8 @@ pub read-requires : goal.read-requires
 read-requires g c =
     listing_room g.T.Record.size g.T.Record.decoded c.args.bytes.now c.args.start c.args.count c.requires.whole c.loop-i.invariant c.loop-i-test.true
 
-pub overflow-add-at : goal.overflow-add-at
-overflow-add-at g c =
+pub overflow_add-at : goal.overflow_add-at
+overflow_add-at g c =
     let room = listing_room g.T.Record.size g.T.Record.decoded c.args.bytes.now c.args.start c.args.count c.requires.whole c.loop-i.invariant c.loop-i-test.true in
     let same = c.size-size.ensures in
     omega arith

@@ -2,8 +2,8 @@ use Rattle.std.proofs.Common.{refl, arith}
 use Rattle.targets.proofs.Placing.{Placing, placing_more, placing_outside, placing_all}
 use Rattle.targets.proofs.checks.place_all.Goals as goal
 
-pub returns-in-default : goal.returns-in-default
-returns-in-default c = placing_outside c.loop-i.invariant _ c.loop-i-test.true c.in-default.ensures.value
+pub returns-in_default : goal.returns-in_default
+returns-in_default c = placing_outside c.loop-i.invariant _ c.loop-i-test.true c.in_default.ensures.value
 
 pub bounds-coins-i : goal.bounds-coins-i
 bounds-coins-i c = let w = c.loop-i-test.true in let s = c.requires.same in omega arith

@@ -9,7 +9,7 @@ pub loop-i-preserved-in-Some : goal.loop-i-preserved-in-Some
 loop-i-preserved-in-Some c = lacking_both c.loop-i.invariant _ c.loop-i-test.true c.if-is_top.ensures _ c.in-Some.ensures
 
 pub loop-i-preserved : goal.loop-i-preserved
-loop-i-preserved c = lacking_lone c.loop-i.invariant _ c.loop-i-test.true c.if-is_top.ensures c.in-default.ensures _ c.sibling_place.ensures _ c.push.ensures
+loop-i-preserved c = lacking_lone c.loop-i.invariant _ c.loop-i-test.true c.if-is_top.ensures c.in_default.ensures _ c.sibling_place.ensures _ c.push.ensures
 
 pub returns : goal.returns
 returns c = lacking_all c.loop-i.invariant c.loop-i-test.false

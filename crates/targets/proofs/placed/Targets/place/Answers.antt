@@ -14,15 +14,15 @@ returns-then-positions-gt32 c = refused_many c.args.count c.args.positions.now c
 pub returns-then-positions-coins : goal.returns-then-positions-coins
 returns-then-positions-coins c = refused_unequal c.args.count c.args.positions.now c.args.coins.now c.if-positions-gt32.false c.if-positions-coins.true
 
-pub returns-in-default : goal.returns-in-default
-returns-in-default c =
+pub returns-in_default : goal.returns-in_default
+returns-in_default c =
     refused_unordered c.args.count c.args.positions.now c.args.coins.now c.if-positions-gt32.false c.if-positions-coins.false
-    (lone_cause 4 (not (ascending (numbers c.args.positions.now))) (number c.in-default.field-0) c.in-default.ensures)
+    (lone_cause 4 (not (ascending (numbers c.args.positions.now))) (number c.in_default.field-0) c.in_default.ensures)
 
-pub returns-in-default-place_all : goal.returns-in-default-place_all
-returns-in-default-place_all c =
+pub returns-in_default-place_all : goal.returns-in_default-place_all
+returns-in_default-place_all c =
     let ordered = (free (cause 4 (not (ascending (numbers c.args.positions.now))) ∷ []) c.in-Ok.ensures.0).0 in
-    refused_astray c.args.count c.args.positions.now c.args.coins.now c.if-positions-gt32.false c.if-positions-coins.false ordered c.in-default-place_all.ensures
+    refused_astray c.args.count c.args.positions.now c.args.coins.now c.if-positions-gt32.false c.if-positions-coins.false ordered c.in_default-place_all.ensures
 
 pub returns-then-any_above : goal.returns-then-any_above
 returns-then-any_above c =
