@@ -1,6 +1,6 @@
 -- Members of lists: append, map, filter, a test of some member, the first that passes.
 use Rattle.std.proofs.Common.{◌≡◌, ℕ, zero, suc, Bool, true, false, cond, ◌||◌, ◌⊎◌, List, [], ◌∷◌, ◌++◌, map, get_or, take, Some, None, Option, sym, refl, ap, ◌∙◌, subst, ap₂, inl, inr, arith}
-use Rattle.std.specs.List.{AllByRecursion as All}
+use Rattle.std.specs.List.{AllByRecursion}
 use Rattle.std.proofs.lemmas.Bool.{cases_Bool, or_left, or_right}
 use Rattle.utreexo.specs.Lists.{filter, any, first}
 use Rattle.laws.proofs.Logic.{true_false, never}
@@ -33,11 +33,11 @@ map_mem f (x ∷ xs) y (inl e) = (x, inl refl, e)
 map_mem f (x ∷ xs) y (inr m) = let r = map_mem f xs y m in (r.0, inr r.1, r.2)
 
 -- what holds of all, and of each member
-pub all_mem : {A : Type 0} (P : A → Type 0) (xs : List A) → ((x : A) → Mem x xs → P x) → All P xs
+pub all_mem : {A : Type 0} (P : A → Type 0) (xs : List A) → ((x : A) → Mem x xs → P x) → AllByRecursion P xs
 all_mem P [] h = tt
 all_mem P (x ∷ xs) h = (h x (inl refl), all_mem P xs (λ y m. h y (inr m)))
 
-pub mem_all : {A : Type 0} (P : A → Type 0) (xs : List A) (x : A) → All P xs → Mem x xs → P x
+pub mem_all : {A : Type 0} (P : A → Type 0) (xs : List A) (x : A) → AllByRecursion P xs → Mem x xs → P x
 mem_all P [] x a m = absurd m
 mem_all P (y ∷ xs) x a (inl e) = subst P (sym e) a.0
 mem_all P (y ∷ xs) x a (inr m) = mem_all P xs x a.1 m

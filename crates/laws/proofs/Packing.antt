@@ -1,7 +1,7 @@
 -- Numbers as bytes, least byte first, and back; lists of equal parts.
 use Rattle.std.proofs.Common.{◌≡◌, ℕ, zero, suc, ◌+◌, ◌*◌, ◌/◌, ◌%◌, ◌^◌, ◌<◌, ◌≤◌, List, [], ◌∷◌, ◌++◌, map, length, get_or, take, drop, sym, refl, ap, ◌∙◌, ap₂, append_assoc, append-nil, pow-suc, mul-zero, mul-suc, arith, length-append, length-drop, length-take-le, drop-drop, take_at, ext_get_or, take-add}
 use lib.Seq.{drop-append-add}
-use Rattle.std.specs.List.{AllByRecursion as All}
+use Rattle.std.specs.List.{AllByRecursion}
 use Rattle.std.proofs.ByRecursion.{All-take, All-drop, All-get_or}
 use Rattle.std.proofs.lemmas.List.{map-append}
 use Rattle.utreexo.specs.Bytes.{Bytes, number_in, number_bytes, part, Octets}
@@ -65,7 +65,7 @@ module _ {A : Type 0} (f : A → Bytes) (w : ℕ) (sized : (x : A) → length (f
       ∙ packed_at xs i d post (omega arith)
 
   -- the entries read back
-  pub unpacked : (g : Bytes → A) (Ok : A → Type 0) (back : (x : A) → Ok x → g (f x) ≡ x) (d : A) (xs : List A) → All Ok xs
+  pub unpacked : (g : Bytes → A) (Ok : A → Type 0) (back : (x : A) → Ok x → g (f x) ≡ x) (d : A) (xs : List A) → AllByRecursion Ok xs
       → (b pre post : Bytes) (a n : ℕ) → b ≡ pre ++ (concat (map f xs) ++ post) → length pre ≡ a → length xs ≡ n
       → map (λ i. g (part (a + w * i) w b)) (below n) ≡ xs
   unpacked g Ok back d xs ok b pre post a n e l s =

@@ -1,6 +1,6 @@
 -- A block composed is read back, and bytes read are composed again.
 use Rattle.std.proofs.Common.{◌≡◌, ℕ, ◌+◌, ◌*◌, ◌^◌, ◌<◌, ◌≤◌, false, not, ◌||◌, eqb, ltb, List, [], ◌++◌, map, length, take, drop, None, sym, refl, ap, ◌∙◌, ap₂, append_assoc, append-nil, arith, length-append, length-drop, length-take-le, take_all, drop-drop, take-add}
-use Rattle.std.specs.List.{AllByRecursion as All}
+use Rattle.std.specs.List.{AllByRecursion}
 use Rattle.std.proofs.lemmas.Bool.{le-ltb, eq-eqb, or_from, not_from_true}
 use Rattle.utreexo.specs.declared.types.Coin.{Coin}
 use Rattle.utreexo.specs.declared.types.Value.{Value}
@@ -172,7 +172,7 @@ module _ (b : Block) where
     coins_read_length = length_map_below (new_in (composed b) (length b.spent) (length b.hashes)) (length b.coins)
 
     -- new coins that fit are read back too
-    pub read_back : All CoinFits b.coins → entries (composed b) ≡ b
+    pub read_back : AllByRecursion CoinFits b.coins → entries (composed b) ≡ b
     read_back coins-fit = read_most ∙ ap (λ z. record { targets = b.targets; spent = b.spent; hashes = b.hashes; coins = z })
         (unpacked coin_bytes 32 (λ c. refl) coin_in CoinFits coin_back no_coin b.coins coins-fit
         (composed b) (((head ++ at_targets) ++ at_spent) ++ at_hashes) []

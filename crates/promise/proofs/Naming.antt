@@ -1,6 +1,6 @@
 -- Positions that name live slots, the coins that they name, and the targets that they make.
 use Rattle.std.proofs.Common.{◌≡◌, ℕ, suc, ◌≤◌, Bool, true, false, not, List, [], ◌∷◌, map, length, is_some, Some, None, Option, sym, refl, ap, ◌∙◌, subst, inl, inr, arith}
-use Rattle.std.specs.List.{AllByRecursion as All}
+use Rattle.std.specs.List.{AllByRecursion}
 use Rattle.utreexo.specs.declared.types.Coin.{Coin}
 use Rattle.utreexo.specs.Lists.{any}
 use Rattle.utreexo.specs.Values.{Image}
@@ -25,7 +25,7 @@ module _ (image : Image) (s : Slots) where
   names_none p = elim (locate (length s) p) [ None ↦ true | Some e ↦ not (is_some (coin_at image s e)) ]
 
   -- positions of which none does: cause 16 of writing does not hold
-  pub named_live : (ps : List ℕ) → any names_none ps ≡ false → All (LiveNamed image s) ps
+  pub named_live : (ps : List ℕ) → any names_none ps ≡ false → AllByRecursion (LiveNamed image s) ps
   named_live ps e = all_mem (LiveNamed image s) ps (λ p m. go p (locate (length s) p) refl (any_none names_none ps p e m))
     where
       go : (p : ℕ) (x : Option Node) → locate (length s) p ≡ x → names_none p ≡ false → LiveNamed image s p
@@ -49,7 +49,7 @@ module _ (image : Image) (s : Slots) where
   named_coins ps = named (length s) ps (map coin_of ps)
 
   -- each of these has its coin
-  pub named_true : (ps : List ℕ) → All (LiveNamed image s) ps → (x : Target) → Mem x (named_coins ps) → coin_at image s x.node ≡ Some x.coin
+  pub named_true : (ps : List ℕ) → AllByRecursion (LiveNamed image s) ps → (x : Target) → Mem x (named_coins ps) → coin_at image s x.node ≡ Some x.coin
   named_true [] a x m = absurd m
   named_true (p ∷ ps) a x m = go a.0 (named_true ps a.1 x)
     where

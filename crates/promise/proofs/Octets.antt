@@ -1,6 +1,6 @@
 -- What is read of bytes fits its words.
 use Rattle.std.proofs.Common.{◌≡◌, ℕ, zero, suc, ◌+◌, ◌*◌, ◌^◌, ◌<◌, ◌≤◌, [], ◌∷◌, map, length, drop, None, sym, ◌∙◌, subst, pow-suc, arith, length-take}
-use Rattle.std.specs.List.{AllByRecursion as All}
+use Rattle.std.specs.List.{AllByRecursion}
 use Rattle.std.proofs.ByRecursion.{All-map}
 use Rattle.utreexo.specs.declared.types.Coin.{Coin}
 use Rattle.utreexo.specs.Bytes.{Bytes, Octets, number_in, part, coin_in, value_in}
@@ -47,7 +47,7 @@ added_fits b o c m = go (map_mem (new_in b (spent_count b) (hash_count b)) (belo
         subst CoinFits (sym e) (coin_in_fits (part at 32 b) (part_octets at 32 b o))
 
 -- all of a list made from the numbers below n
-all_below : {A : Type 0} (P : A → Type 0) (f : ℕ → A) (n : ℕ) → ((i : ℕ) → P (f i)) → All P (map f (below n))
+all_below : {A : Type 0} (P : A → Type 0) (f : ℕ → A) (n : ℕ) → ((i : ℕ) → P (f i)) → AllByRecursion P (map f (below n))
 all_below P f n h = All-map P f (below n) (all_mem (λ i. P (f i)) (below n) (λ i m. h i))
 
 -- the entries of bytes that read are within the limits

@@ -1,6 +1,6 @@
 -- A bridge serves a wallet of the same standing blocks.
 use Rattle.std.proofs.Common.{◌≡◌, ℕ, ◌^◌, ◌<◌, ◌≤◌, Bool, true, false, not, T, eqb, List, [], ◌∷◌, ◌++◌, map, length, get_or, is_some, Some, None, Option, sym, refl, ap, ◌∙◌, subst, ap₂, arith}
-use Rattle.std.specs.List.{AllByRecursion as All}
+use Rattle.std.specs.List.{AllByRecursion}
 use Rattle.std.proofs.lemmas.Bool.{eqb-true, le-ltb}
 use Rattle.utreexo.specs.declared.types.Coin.{Coin}
 use Rattle.utreexo.specs.Bytes.{Bytes}
@@ -111,7 +111,7 @@ bridge_writes image fit capacity fed octets ps cs out wrote g coins-fit =
 
 -- A wallet whose run has agreed, and a bridge of the same standing blocks.
 module _ (image : Image) (fit : ImageFits image) (places : ℕ) (calls : List Call) (agreed : Agreed image places calls)
-    (capacity : ℕ) (fed : List BridgeCall) (octets : All GivenOctets fed)
+    (capacity : ℕ) (fed : List BridgeCall) (octets : AllByRecursion GivenOctets fed)
     (e : standing (map as_call fed) (bridge_run image capacity fed).answers [] ≡ standing calls (wallet_run image places calls).answers []) where
   abbrev w : Wallet
   w = (wallet_run image places calls).state

@@ -1,6 +1,6 @@
 -- Words that fit: where all coins of the slots fit, so do all values over them.
 use Rattle.std.proofs.Common.{◌≡◌, ℕ, zero, suc, ◌+◌, ◌*◌, Bool, true, false, cond, List, [], ◌∷◌, map, length, get_or, Some, None, Option, sym, refl, subst, inl, inr, arith}
-use Rattle.std.specs.List.{AllByRecursion as All}
+use Rattle.std.specs.List.{AllByRecursion}
 use Rattle.std.proofs.ByRecursion.{All-drop}
 use Rattle.utreexo.specs.declared.types.Coin.{Coin}
 use Rattle.utreexo.specs.declared.types.Input.{Input}
@@ -113,26 +113,26 @@ after_fits image b s o f w c e =
     new (d, n, q) = let z : c ≡ d = cc in subst CoinFits (sym z) (added_fits b o d n)
 
 -- so all slots that blocks of bytes make fit
-built_fits : (image : Image) (bs : List Bytes) → All Octets bs → SlotsFit (built image bs)
+built_fits : (image : Image) (bs : List Bytes) → AllByRecursion Octets bs → SlotsFit (built image bs)
 built_fits image [] a w c e = absurd (never c e)
 built_fits image (b ∷ bs) a w c e = after_fits image b (built image bs) a.0 (built_fits image bs a.1) w c e
 
 -- where the blocks of calls are bytes, so are those that stand
-stand_octets : (c : BridgeCall) (a : Answer) (bs : List Bytes) → GivenOctets c → All Octets bs → All Octets (stand (as_call c) a bs)
+stand_octets : (c : BridgeCall) (a : Answer) (bs : List Bytes) → GivenOctets c → AllByRecursion Octets bs → AllByRecursion Octets (stand (as_call c) a bs)
 stand_octets (bridge_take b) (granted o) bs g h = (g, h)
 stand_octets (bridge_take b) (refused k) bs g h = h
 stand_octets bridge_take_back (granted o) bs g h = All-drop Octets 1 bs h
 stand_octets bridge_take_back (refused k) bs g h = h
 
 -- the standing blocks of a bridge that is given bytes are bytes
-standing_octets : (fed : List BridgeCall) (ans : List Answer) (bs : List Bytes) → All GivenOctets fed → All Octets bs
-    → All Octets (standing (map as_call fed) ans bs)
+standing_octets : (fed : List BridgeCall) (ans : List Answer) (bs : List Bytes) → AllByRecursion GivenOctets fed → AllByRecursion Octets bs
+    → AllByRecursion Octets (standing (map as_call fed) ans bs)
 standing_octets [] ans bs g h = h
 standing_octets (c ∷ cs) [] bs g h = h
 standing_octets (c ∷ cs) (a ∷ ans) bs g h = standing_octets cs ans (stand (as_call c) a bs) g.1 (stand_octets c a bs g.0 h)
 
 -- the slots of a bridge that is given bytes fit
-pub bridge_fits : (image : Image) (capacity : ℕ) (fed : List BridgeCall) → All GivenOctets fed → SlotsFit (bridge_run image capacity fed).state.slots
+pub bridge_fits : (image : Image) (capacity : ℕ) (fed : List BridgeCall) → AllByRecursion GivenOctets fed → SlotsFit (bridge_run image capacity fed).state.slots
 bridge_fits image capacity fed octets =
     subst SlotsFit (sym (bridge_slots image capacity fed))
     (built_fits image (standing (map as_call fed) (bridge_run image capacity fed).answers [])

@@ -1,7 +1,7 @@
 -- A block that a bridge writes: a wallet of the same slots takes it, and so does the bridge.
 use Rattle.std.proofs.Common.{◌≡◌, ℕ, zero, suc, ◌+◌, ◌^◌, ◌<◌, ◌≤◌, Bool, true, false, cond, not, eqb, ltb, leb, List, [], ◌∷◌, ◌++◌, length, drop, is_some, None, sym, refl, ap, ◌∙◌, subst, arith, pow_mono}
 use lib.ListN.{length-map}
-use Rattle.std.specs.List.{AllByRecursion as All}
+use Rattle.std.specs.List.{AllByRecursion}
 use Rattle.std.proofs.ByRecursion.{All-map}
 use Rattle.std.proofs.lemmas.Bool.{or_parts, ltb-false, le-ltb, eq-eqb, not_from_true, not-false}
 use Rattle.utreexo.specs.declared.types.Coin.{Coin}
@@ -85,7 +85,7 @@ module _ (image : Image) (s : Slots) (image-fits : ImageFits image) (slots-fit :
   room : length s + length cs ≤ most_slots
   room = ltb-false most_slots (length s + length cs) write_free.1.1.1.1.0
 
-  live : All (LiveNamed image s) ps
+  live : AllByRecursion (LiveNamed image s) ps
   live = named_live image s ps write_free.1.1.1.1.1.0
 
   write_small : length s < 2 ^ 32
@@ -176,5 +176,5 @@ module _ (image : Image) (s : Slots) (image-fits : ImageFits image) (slots-fit :
       (ascends, (inside, (alone, (as_many, (within most_slots room, (all_live, (same, (within capacity enough, tt))))))))))
 
   -- it is read as the block that was asked for
-  pub written_read : All CoinFits cs → entries bs ≡ block
+  pub written_read : AllByRecursion CoinFits cs → entries bs ≡ block
   written_read coins-fit = read_back block fitting coins-fit

@@ -1,7 +1,7 @@
 -- What the functions of this crate state beside the promise itself. A hypothesis that a theorem needs is its parameter, so that a
 -- function's contract names it.
 use Rattle.std.specs.Prelude.{◌≡◌, ℕ, ◌+◌, ◌^◌, ◌<◌, ◌≤◌, false, not, ◌≢◌, List, [], ◌∷◌, ◌++◌, map, length, Some, None, slice_index_or}
-use Rattle.std.specs.List.{AllByRecursion as All}
+use Rattle.std.specs.List.{AllByRecursion}
 use Rattle.utreexo.specs.declared.types.Coin.{Coin}
 use Rattle.utreexo.specs.declared.types.Input.{Input}
 use Rattle.utreexo.specs.Bytes.{Bytes}
@@ -42,7 +42,7 @@ AlwaysAgreed So = (image : Image) → So image → (places : ℕ) (calls : List 
 -- roots and shelf is that on the slots: the view after it is the view of the slots after it, of the watched slots that it did not spend.
 abbrev pub BlocksStep : (Image → Slots → Bytes → List Cause) → Type 0
 BlocksStep causes = (image : Image) (s : Slots) → length s < 2 ^ 32 → (watched : List ℕ) →
-    All (λ w. (c : Coin) × (slice_index_or s w None ≡ Some c)) watched →
+    AllByRecursion (λ w. (c : Coin) × (slice_index_or s w None ≡ Some c)) watched →
     (b : Bytes) → refusal (causes image s b) ≡ None →
     (refusal (take_causes image (view_of image s watched) b) ≡ None)
     × (view_after image b (view_of image s watched) ≡ view_of image (slots_after image b s) (filter (λ w. not (spent_slot image s (targets_of (length s) (entries b)) w)) watched))
@@ -53,7 +53,7 @@ BlocksStep causes = (image : Image) (s : Slots) → length s < 2 ^ 32 → (watch
 -- on the shelf, while fewer than `places` coins are
 abbrev pub CardsWatched : ℕ → Type 0
 CardsWatched places-on-shelf = (image : Image) → ImageFits image → (places : ℕ) (calls : List Call) → Agreed image places calls →
-    (capacity : ℕ) (fed : List BridgeCall) → All GivenOctets fed →
+    (capacity : ℕ) (fed : List BridgeCall) → AllByRecursion GivenOctets fed →
     (standing (map as_call fed) (bridge_run image capacity fed).answers [] ≡ standing calls (wallet_run image places calls).answers []) →
     let w = (wallet_run image places calls).state in
     let s = (bridge_run image capacity fed).state.slots in
@@ -64,16 +64,16 @@ CardsWatched places-on-shelf = (image : Image) → ImageFits image → (places :
 
 -- a bridge takes each block that it writes, where it has the capacity
 abbrev pub BridgeTakes : (Image → Type 0) → Type 0
-BridgeTakes So = (image : Image) → So image → (capacity : ℕ) (fed : List BridgeCall) → All GivenOctets fed →
+BridgeTakes So = (image : Image) → So image → (capacity : ℕ) (fed : List BridgeCall) → AllByRecursion GivenOctets fed →
     let g = (bridge_run image capacity fed).state in
     (ps : List ℕ) (cs : List Coin) (out wrote : Bytes) → write image g.slots ps cs out ≡ granted wrote → length g.slots + length cs ≤ capacity →
     (bridge_step image (bridge_take (composed (block_for image g.slots ps cs))) g).answer ≡ granted []
 
 -- a block that a bridge writes, of such new coins, reads as the block that was asked for
 abbrev pub BridgeWrites : (Coin → Type 0) → Type 0
-BridgeWrites So = (image : Image) → ImageFits image → (capacity : ℕ) (fed : List BridgeCall) → All GivenOctets fed →
+BridgeWrites So = (image : Image) → ImageFits image → (capacity : ℕ) (fed : List BridgeCall) → AllByRecursion GivenOctets fed →
     let s = (bridge_run image capacity fed).state.slots in
-    (ps : List ℕ) (cs : List Coin) (out wrote : Bytes) → write image s ps cs out ≡ granted wrote → All So cs →
+    (ps : List ℕ) (cs : List Coin) (out wrote : Bytes) → write image s ps cs out ≡ granted wrote → AllByRecursion So cs →
     (wrote ≡ over (composed (block_for image s ps cs)) out) × (entries (composed (block_for image s ps cs)) ≡ block_for image s ps cs)
 
 -- Blocks as bytes -----------------------------------------------------------------------------------
@@ -84,14 +84,14 @@ pub record Fitting (b : Block) : Type 0 where
   pub few_spent : length b.spent ≤ 32
   pub few_hashes : length b.hashes ≤ 992
   pub few_coins : length b.coins ≤ 32
-  pub targets_fit : All (λ p. p < 2 ^ 64) b.targets
-  pub spent_fit : All CoinFits b.spent
-  pub hashes_fit : All ValueFits b.hashes
+  pub targets_fit : AllByRecursion (λ p. p < 2 ^ 64) b.targets
+  pub spent_fit : AllByRecursion CoinFits b.spent
+  pub hashes_fit : AllByRecursion ValueFits b.hashes
 
 -- the entries of a composed block, of such new coins, are what was composed
 abbrev pub ReadBack : (Coin → Type 0) → Type 0
-ReadBack So = (b : Block) → Fitting b → All So b.coins → entries (composed b) ≡ b
+ReadBack So = (b : Block) → Fitting b → AllByRecursion So b.coins → entries (composed b) ≡ b
 
 -- the entries of a readable block, of such bytes, are within the limits, and composing them gives its bytes
 abbrev pub WriteBack : (Bytes → Type 0) → Type 0
-WriteBack So = (b : Bytes) → So b → refusal (read_causes b) ≡ None → Fitting (entries b) × All CoinFits (entries b).coins × (composed (entries b) ≡ b)
+WriteBack So = (b : Bytes) → So b → refusal (read_causes b) ≡ None → Fitting (entries b) × AllByRecursion CoinFits (entries b).coins × (composed (entries b) ≡ b)

@@ -1,6 +1,6 @@
 -- Numbers, coins and values as bytes, the lowest byte first. A byte is a number below 256.
 use Rattle.std.specs.Prelude.{ℕ, zero, suc, ◌+◌, ◌*◌, ◌/◌, ◌%◌, ◌<◌, List, [], ◌∷◌, ◌++◌, take, drop}
-use Rattle.std.specs.List.{AllByRecursion as All}
+use Rattle.std.specs.List.{AllByRecursion}
 use Rattle.utreexo.specs.declared.types.Coin.{Coin}
 use Rattle.utreexo.specs.declared.types.Value.{Value}
 
@@ -9,7 +9,7 @@ Bytes = List ℕ
 
 -- all of them are bytes indeed
 abbrev pub Octets : Bytes → Type 0
-Octets bs = All (λ b. b < 256) bs
+Octets bs = AllByRecursion (λ b. b < 256) bs
 
 -- the k bytes that begin at byte i
 abbrev pub part : ℕ → ℕ → Bytes → Bytes

@@ -1,6 +1,6 @@
 -- Wallet and collection cannot part without leaving evidence: the promise, as a law over all runs.
 use Rattle.std.specs.Prelude.{◌≡◌, ℕ, ◌≤◌, T, ◌≢◌, List, [], ◌∷◌, map, length, drop, Some, None, Option, nat_eq}
-use Rattle.std.specs.List.{AllByRecursion as All}
+use Rattle.std.specs.List.{AllByRecursion}
 use Rattle.utreexo.specs.declared.types.Coin.{Coin}
 use Rattle.utreexo.specs.Bytes.{Bytes}
 use Rattle.utreexo.specs.Lists.{any}
@@ -113,7 +113,7 @@ module _ (image : Image) (places : ℕ) where
   -- the bridge
   abbrev pub ServedWhere : Type 0 → (BridgeCall → Type 0) → Type 0
   ServedWhere Image-so Call-so = Image-so → (calls : List Call) → Agreed image places calls →
-      (capacity : ℕ) (fed : List BridgeCall) → All Call-so fed →
+      (capacity : ℕ) (fed : List BridgeCall) → AllByRecursion Call-so fed →
       (standing (map as_call fed) (bridge_run image capacity fed).answers [] ≡ standing calls (wallet_run image places calls).answers []) →
       ServesAt calls capacity fed
 

@@ -4,8 +4,8 @@ use Rattle.full_keeper.specs.Table.{Least}
 use Rattle.full_keeper.proofs.Rows.{rows_least}
 use Rattle.full_keeper.proofs.Full.new.Goals as goal
 
-pub invariant-of-result : goal.invariant-of-result
-invariant-of-result g c =
+pub invariant_of-result : goal.invariant_of-result
+invariant_of-result g c =
     let top = c.rows-top.result in
     let low = c.rows-top.ensures.low in
     let e = double_shl top low in

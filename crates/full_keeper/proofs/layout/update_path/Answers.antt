@@ -11,13 +11,13 @@ pub loop-place-init : goal.loop-place-init
 loop-place-init g c =
     updating_none g.C.Compression.image c.args.coins.now c.args.rows (set c.args.table.now c.args.slot c.leaf_value.result) c.args.slot (simp length-set c.requires.room)
 
-pub slice-copy-out·left : goal.slice-copy-out·left
-slice-copy-out·left g c =
+pub slice_copy_out-left : goal.slice_copy_out-left
+slice_copy_out-left g c =
     let q = reach (length c.args.coins.now) c.args.rows c.loop-place.row c.loop-place.place (length c.loop-place.table) c.requires.high c.loop-place.invariant.room c.loop-place.invariant.pos (omega arith) in
     omega (arith, q.below)
 
-pub slice-copy-out·right : goal.slice-copy-out·right
-slice-copy-out·right g c =
+pub slice_copy_out-right : goal.slice_copy_out-right
+slice_copy_out-right g c =
     let q = reach (length c.args.coins.now) c.args.rows c.loop-place.row c.loop-place.place (length c.loop-place.table) c.requires.high c.loop-place.invariant.room c.loop-place.invariant.pos (omega arith) in
     omega (arith, q.below)
 

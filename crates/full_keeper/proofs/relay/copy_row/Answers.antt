@@ -7,7 +7,7 @@ pub copy_within-requires : goal.copy_within-requires
 copy_within-requires c =
     let a = row_in c.args.count c.args.from c.args.row c.requires.high.0 c.requires.above.0 in
     let b = row_in c.args.count c.args.to c.args.row c.requires.high.1 c.requires.above.1 in
-    record { start-le-end = omega arith; in_bounds = omega arith; dest-in-bounds = omega arith; not-exhausted = tt }
+    record { start_le_end = omega arith; in_bounds = omega arith; dest_in_bounds = omega arith; not_exhausted = tt }
 
 pub returns : goal.returns
 returns c =

@@ -6,8 +6,8 @@ use Rattle.climb.proofs.needed.Needed.push.Goals as goal
 pub bounds-self-self : goal.bounds-self-self
 bounds-self-self c = let s = c.args.self.now in let a = length-map (take s.len s.nodes) node_of in let b = length-take s.len s.nodes in omega arith
 
-pub invariant-of-self : goal.invariant-of-self
-invariant-of-self c =
+pub invariant_of-self : goal.invariant_of-self
+invariant_of-self c =
     let s = c.args.self.now in let a = length-map (take s.len s.nodes) node_of in let b = length-take s.len s.nodes in let l : s.len < 1024 = omega arith in search rules
 
 pub returns : goal.returns
