@@ -10,8 +10,15 @@ invariant_of-result g c =
     let low = c.rows-top.ensures.low in
     let e = double_shl top low in
     let p = pow_next top in
-    let made = c.in-ok-coins.ensures in
+    let made = c.in_ok-coins.ensures in
     let none = made.len in
     let room = made.capacity in
-    let t = c.in-ok-table.ensures.len in
-    (omega arith, (omega arith, (omega arith, (subst (Least c.args.capacity) (sym c.rows-top.ensures.value) (rows_least c.args.capacity (omega arith)), ((omega arith, λ k h. omega arith), (omega arith, tt))))))
+    let t = c.in_ok-table.ensures.len in
+    record {
+      fits = omega arith;
+      small = omega arith;
+      reserved = omega arith;
+      high = subst (Least c.args.capacity) (sym c.rows-top.ensures.value) (rows_least c.args.capacity (omega arith));
+      least = (omega arith, λ k h. omega arith);
+      room = omega arith;
+    }

@@ -35,11 +35,11 @@ pub invariant_of-result : goal.invariant_of-result
 invariant_of-result c =
     let ordered = (free (cause 4 (not (ascending (numbers c.args.positions.now))) ∷ []) c.in-Ok.ensures.0).0 in
     let located = c.in-Some.ensures in
-    let apart : false ≡ above_another (targets (listed c.in-Some.spends)) = c.if-any_above.ensures ∙ ap (λ ss. above_another (targets ss)) c.as_slice.ensures.value in (
-      placed_valid c.args.count c.args.positions.now c.args.coins.now c.if-positions-gt32.false c.if-positions-coins.false ordered located.all_inside
-          (targets (listed c.in-Some.spends)) located.are apart (omega arith),
-      tt,
-    )
+    let apart : false ≡ above_another (targets (listed c.in-Some.spends)) = c.if-any_above.ensures ∙ ap (λ ss. above_another (targets ss)) c.as_slice.ensures.value in
+    record {
+      valid = placed_valid c.args.count c.args.positions.now c.args.coins.now c.if-positions-gt32.false c.if-positions-coins.false ordered located.all_inside
+          (targets (listed c.in-Some.spends)) located.are apart (omega arith);
+    }
 
 pub returns : goal.returns
 returns c =
