@@ -1,27 +1,17 @@
 -- Claims by row: at a target, above covered places, and where nothing is covered. Assumes nothing.
-use Rattle.std.proofs.Common.{◌≡◌, ℕ, zero, suc, ◌+◌, ◌-◌, ◌*◌, ◌/◌, ◌%◌, ◌^◌, ◌<◌, ◌≤◌, Bool, true, false, cond, ◌&&◌, eqb, ltb, ◌⊎◌, List, [], ◌∷◌, ◌++◌, map, length, get_or, Some, None, Option, sym, refl, ap, ◌∙◌, subst, inl, inr, arith}
-use Rattle.std.proofs.lemmas.Bool.{and_parts, and_from, eqb-true, eq-eqb, ne_eqb, both_ways, cases_eq}
+use Rattle.std.proofs.Common.{◌≡◌, ℕ, zero, suc, ◌+◌, ◌*◌, ◌/◌, ◌%◌, Bool, true, false, cond, eqb, List, [], ◌∷◌, Some, None, Option, sym, refl, ap, ◌∙◌, subst, inl, inr, arith}
+use Rattle.std.proofs.lemmas.Bool.{and_parts, and_from, eqb-true, eq-eqb, ne_eqb, both_ways}
 use Rattle.utreexo.specs.declared.types.Value.{Value}
-use Rattle.climb.specs.declared.item.Item.{Item}
-use Rattle.laws.proofs.Order.{Mem, From}
-use Rattle.utreexo.specs.declared.types.Input.{Input}
-use Rattle.utreexo.specs.declared.types.Input.TheVariants.{Leaf, Pair}
-use Rattle.utreexo.specs.Values.{Image, join}
-use Rattle.utreexo.specs.Lists.{first, any}
+use Rattle.laws.proofs.Order.{Mem}
+use Rattle.utreexo.specs.Values.{Image}
 use Rattle.utreexo.specs.Forest.{Node, at_node}
-use Rattle.utreexo.specs.Claims.{Target, beneath, same_node, covered, target_at, Proof, proof_of, no_value, Claim, spent, given, both, claim_at, claimed, after}
-use Rattle.targets.proofs.Valid.{Later, Sorted, Valid}
-use Rattle.climb.specs.Rows.{top, beside, ups, lones, sib, front, pasts, spot, full, carried, used, merge, left_of, Stepped, before, spent_item, twin, hashed, lone, step}
-use Rattle.climb.specs.Entries.{item_of, entry}
+use Rattle.utreexo.specs.Claims.{Target, same_node, covered, target_at, Proof, Claim, spent, given, both, claim_at}
+use Rattle.targets.proofs.Valid.{Later, Sorted}
+use Rattle.climb.specs.Rows.{spent_item, twin, hashed, lone}
+use Rattle.climb.specs.Entries.{item_of}
 use Rattle.laws.proofs.Logic.{true_false}
-use Rattle.laws.proofs.Members.{first_some, first_none, mem_map}
-use Rattle.climb.proofs.Walk.{walk, next, alone, beside_is, top_is, ups_root, ups_pair, ups_lone, lones_root, lones_pair, lones_lone, Below}
-use Rattle.climb.proofs.Merged.{merge_map}
-use Rattle.climb.proofs.Covers.{Under, is_beneath, covered_under, under_covered, under_up, under_at, mem_at_row, at_row_mem, Beneath}
-use Rattle.climb.proofs.Full.{Holds, Is, is, parted, risen_mem, mem_risen}
-use Rattle.climb.specs.Rows.{absent}
-use Rattle.climb.proofs.Wanted.{absent_is, Lacks}
-use Rattle.climb.proofs.Picked.{Fits, row_fits}
+use Rattle.laws.proofs.Members.{first_some, first_none}
+use Rattle.climb.proofs.Covers.{Under, under_covered, under_at}
 
 same_is : (d : Node) (r o : ℕ) → same_node d (at_node r o) ≡ true → (d.row ≡ r) × (d.place ≡ o)
 same_is d r o e = let (a, b) = and_parts (eqb d.row r) (eqb d.place o) e in (eqb-true d.row r a, eqb-true d.place o b)

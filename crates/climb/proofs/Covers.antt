@@ -1,11 +1,10 @@
 -- Which places are covered, row by row; and the targets by row. Assumes nothing.
-use Rattle.std.proofs.Common.{◌≡◌, ℕ, zero, suc, ◌+◌, ◌-◌, ◌*◌, ◌/◌, ◌%◌, ◌^◌, ◌<◌, ◌≤◌, Bool, true, false, cond, not, ◌&&◌, eqb, ltb, leb, ◌⊎◌, List, [], ◌∷◌, ◌++◌, map, sym, refl, ap, ◌∙◌, subst, inl, inr, div-one, arith, pow_pos, shr-shr}
-use Rattle.std.proofs.lemmas.Bool.{eqb-true, eqb-false, eq-eqb, le-leb, leb-true, and_parts, and_from, cases_lt, cases_eq, cases_Bool}
+use Rattle.std.proofs.Common.{◌≡◌, ℕ, zero, suc, ◌+◌, ◌-◌, ◌/◌, ◌^◌, ◌<◌, ◌≤◌, Bool, true, false, cond, eqb, leb, ◌⊎◌, List, [], ◌∷◌, map, sym, refl, ap, ◌∙◌, inl, inr, div-one, arith, shr-shr}
+use Rattle.std.proofs.lemmas.Bool.{eqb-true, eqb-false, eq-eqb, le-leb, leb-true, and_parts, and_from, cases_lt, cases_eq}
 use Rattle.laws.proofs.Order.{Mem, From}
-use Rattle.utreexo.specs.Lists.{any}
 use Rattle.utreexo.specs.Forest.{Node, at_node}
 use Rattle.utreexo.specs.Claims.{Target, beneath, covered}
-use Rattle.targets.proofs.Valid.{Later, Sorted, Valid}
+use Rattle.targets.proofs.Valid.{Later, Sorted}
 use Rattle.climb.specs.Rows.{front, past, pasts, spot}
 use Rattle.laws.proofs.Members.{mem_any, any_mem}
 

@@ -1,13 +1,12 @@
 -- The places that the fold has in a row are the covered ones of the forest, ascending. Assumes nothing.
-use Rattle.std.proofs.Common.{◌≡◌, ℕ, zero, suc, ◌+◌, ◌-◌, ◌*◌, ◌/◌, ◌%◌, ◌^◌, ◌<◌, ◌≤◌, Bool, true, false, ltb, ◌⊎◌, List, [], ◌∷◌, ◌++◌, map, sym, refl, ap, ◌∙◌, subst, inl, inr, arith}
+use Rattle.std.proofs.Common.{◌≡◌, ℕ, zero, suc, ◌-◌, ◌/◌, ◌^◌, ◌<◌, ◌≤◌, ltb, ◌⊎◌, List, map, sym, ap, ◌∙◌, subst, inl, inr, arith}
 use Rattle.laws.proofs.Order.{Mem, From}
-use Rattle.utreexo.specs.Forest.{Node, at_node}
-use Rattle.utreexo.specs.Claims.{Target, beneath, covered}
-use Rattle.targets.proofs.Valid.{Later, Sorted, Valid}
-use Rattle.climb.specs.Rows.{front, past, pasts, spot, full, merge, ups, top}
+use Rattle.utreexo.specs.Claims.{Target}
+use Rattle.targets.proofs.Valid.{Valid}
+use Rattle.climb.specs.Rows.{front, pasts, spot, full, ups}
 use Rattle.laws.proofs.Members.{map_mem, mem_map}
 use Rattle.laws.proofs.Ordered.{from_weaker}
-use Rattle.climb.proofs.Walk.{ups_from, ups_mem, mem_ups, Below, not_top, top_not}
+use Rattle.climb.proofs.Walk.{ups_from, ups_mem, mem_ups, not_top, top_not}
 use Rattle.targets.proofs.Inside.{half_row}
 use Rattle.climb.proofs.Merged.{mem_merge, merge_mem, merge_from}
 use Rattle.climb.proofs.Covers.{Under, is_beneath, under_up, up_place, under_at, same_row, Beneath, under_parts, at_row_mem, mem_at_row, at_row_from}

@@ -1,13 +1,12 @@
 -- The loops that find the needed positions.
-use Rattle.std.proofs.Common.{◌≡◌, ℕ, zero, suc, ◌+◌, ◌-◌, ◌*◌, ◌/◌, ◌^◌, ◌<◌, ◌≤◌, Bool, true, false, cond, List, [], ◌∷◌, ◌++◌, map, length, get_or, take, drop, Some, None, sym, refl, ap, ◌∙◌, subst, arith}
+use Rattle.std.proofs.Common.{◌≡◌, ℕ, zero, suc, ◌+◌, ◌-◌, ◌*◌, ◌/◌, ◌^◌, ◌<◌, ◌≤◌, Bool, true, false, cond, List, [], ◌∷◌, ◌++◌, map, length, get_or, drop, Some, None, sym, refl, ap, ◌∙◌, arith}
 use Rattle.std.proofs.lemmas.List.{drop_more, drop_all, drop-drop, length-drop, append_assoc, append-nil, length_push, length-map, length-append}
-use Rattle.utreexo.specs.declared.types.Value.{Value}
 use Rattle.utreexo.specs.Values.{Image}
 use Rattle.utreexo.specs.Forest.{Node, at_node, position}
 use Rattle.utreexo.specs.Claims.{Target, Proof, needed}
 use Rattle.climb.specs.declared.item.Item.{Item}
 use Rattle.targets.proofs.Valid.{Valid}
-use Rattle.climb.specs.Rows.{top, beside, sib, lones, full, absent, numbers, wanted}
+use Rattle.climb.specs.Rows.{top, beside, sib, lones, full, numbers, wanted}
 use Rattle.climb.specs.Held.{sibling_in}
 use Rattle.climb.specs.Entries.{entry}
 use Rattle.climb.specs.Needed.{numbered, places}

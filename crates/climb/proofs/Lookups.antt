@@ -1,5 +1,5 @@
 -- The item at a place of a row. Assumes nothing.
-use Rattle.std.proofs.Common.{◌≡◌, ℕ, zero, suc, ◌+◌, ◌-◌, ◌/◌, ◌^◌, ◌<◌, ◌≤◌, Bool, true, false, cond, eqb, ◌⊎◌, List, [], ◌∷◌, ◌++◌, map, length, get_or, drop, replicate, Some, None, Option, sym, refl, ap, ◌∙◌, subst, inl, inr, arith}
+use Rattle.std.proofs.Common.{◌≡◌, ℕ, zero, suc, ◌+◌, ◌/◌, ◌^◌, ◌<◌, ◌≤◌, Bool, true, false, cond, eqb, ◌⊎◌, List, [], ◌∷◌, map, length, get_or, drop, replicate, Some, None, sym, refl, ap, ◌∙◌, inl, inr}
 use Rattle.std.proofs.lemmas.List.{drop_more, drop_all}
 use Rattle.std.proofs.lemmas.Bool.{eq-eqb, ne_eqb, both_ways, cases_eq}
 use Rattle.utreexo.specs.declared.types.Value.{Value}
@@ -15,7 +15,7 @@ use Rattle.climb.specs.Held.{held}
 use Rattle.climb.specs.declared.row.Row.{Row}
 use Rattle.climb.specs.Entries.{entry}
 use Rattle.climb.proofs.Covers.{covered_under, under_covered}
-use Rattle.climb.proofs.Full.{Is, Holds, is}
+use Rattle.climb.proofs.Full.{is}
 
 module _ (image : Image) (p : Proof) (r : ℕ) where
   lookup_some : (xs : List ℕ) (o : ℕ) → Mem o xs → lookup (map (entry image p r) xs) o ≡ Some (entry image p r o)

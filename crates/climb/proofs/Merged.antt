@@ -1,9 +1,8 @@
 -- Two ascending lists in one. Assumes nothing.
-use Rattle.std.proofs.Common.{◌≡◌, ℕ, zero, suc, ◌+◌, ◌<◌, ◌≤◌, Bool, true, false, cond, ltb, ◌⊎◌, List, [], ◌∷◌, ◌++◌, map, length, sym, refl, ap, ◌∙◌, subst, inl, inr, arith}
+use Rattle.std.proofs.Common.{◌≡◌, ℕ, suc, ◌+◌, ◌≤◌, Bool, true, false, cond, ltb, ◌⊎◌, List, [], ◌∷◌, map, length, refl, ap, inl, inr, arith}
 use Rattle.std.proofs.lemmas.Bool.{ltb-true, ltb-false, cases_eq}
 use Rattle.laws.proofs.Order.{Mem, From}
 use Rattle.climb.specs.Rows.{weave, merge}
-use Rattle.laws.proofs.Ordered.{from_weaker, from_mem}
 
 module _ {A : Type 0} (less : A → A → Bool) where
   mem_weave : (z x : A) (xs : List A) (k : List A → List A) → ((l : List A) → Mem z (k l) → Mem z xs ⊎ Mem z l) → (ys : List A) → Mem z (weave less x k ys) → Mem z (x ∷ xs) ⊎ Mem z ys

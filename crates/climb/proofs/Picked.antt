@@ -1,5 +1,5 @@
 -- The hash of a needed position is the one that the fold takes there. Assumes nothing.
-use Rattle.std.proofs.Common.{◌≡◌, ℕ, zero, suc, ◌+◌, ◌-◌, ◌*◌, ◌/◌, ◌%◌, ◌^◌, ◌<◌, ◌≤◌, Bool, true, false, cond, eqb, ltb, ◌⊎◌, List, [], ◌∷◌, ◌++◌, map, length, get_or, sym, refl, ap, ◌∙◌, subst, inl, inr, arith, length-append}
+use Rattle.std.proofs.Common.{◌≡◌, ℕ, zero, suc, ◌+◌, ◌-◌, ◌<◌, List, [], ◌∷◌, ◌++◌, map, length, get_or, sym, refl, ap, ◌∙◌, subst, inl, inr, arith, length-append}
 use Rattle.std.proofs.lemmas.List.{append_assoc, append-nil}
 use Rattle.std.proofs.lemmas.Bool.{eq-eqb, ne_eqb}
 use Rattle.utreexo.specs.declared.types.Value.{Value}
@@ -7,9 +7,8 @@ use Rattle.laws.proofs.Order.{Mem, From}
 use Rattle.utreexo.specs.Forest.{position}
 use Rattle.utreexo.specs.Claims.{Target, needed, pick, no_value, Proof, proof_of}
 use Rattle.targets.proofs.Valid.{Valid}
-use Rattle.climb.specs.Rows.{full, lones, used, absent, numbers, wanted}
+use Rattle.climb.specs.Rows.{used, absent, numbers, wanted}
 use Rattle.laws.proofs.Ordered.{from_mem}
-use Rattle.laws.proofs.Members.{append_mem_left}
 use Rattle.climb.proofs.Wanted.{wanted_from, needed_is}
 
 pub pick_at : (A B : List ℕ) (hs : List Value) (q : ℕ) → (Mem q A → ⊥) → pick (A ++ (q ∷ B)) hs q ≡ get_or hs (length A) no_value

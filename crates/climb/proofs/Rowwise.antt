@@ -1,22 +1,22 @@
 -- Row by row, the fold has the claims of the definitions. Assumes nothing.
-use Rattle.std.proofs.Common.{◌≡◌, ℕ, zero, suc, ◌+◌, ◌-◌, ◌*◌, ◌/◌, ◌%◌, ◌^◌, ◌<◌, ◌≤◌, Bool, true, false, cond, not, ◌&&◌, ◌||◌, eqb, ltb, ◌⊎◌, List, [], ◌∷◌, ◌++◌, map, length, get_or, Some, None, Option, sym, refl, ap, ◌∙◌, subst, inl, inr, arith}
+use Rattle.std.proofs.Common.{◌≡◌, ℕ, zero, suc, ◌+◌, ◌/◌, ◌%◌, ◌^◌, ◌<◌, Bool, true, false, cond, not, ◌&&◌, ◌||◌, ltb, List, [], ◌∷◌, ◌++◌, map, get_or, Some, None, Option, sym, refl, ap, ◌∙◌, subst, inl, inr, arith}
 use Rattle.std.proofs.lemmas.Bool.{and_parts, and_from, eqb-true, eq-eqb, both_ways}
 use Rattle.utreexo.specs.declared.types.Value.{Value}
 use Rattle.climb.specs.declared.item.Item.{Item}
-use Rattle.laws.proofs.Order.{Mem, From}
+use Rattle.laws.proofs.Order.{Mem}
 use Rattle.utreexo.specs.Values.{Image, same_value}
 use Rattle.utreexo.specs.Lists.{below, any}
 use Rattle.utreexo.specs.Forest.{at_node, bit, tree_place}
-use Rattle.utreexo.specs.Claims.{Target, covered, target_at, Proof, proof_of, no_value, Claim, given, both, claim_at, claimed, after, needed, root_claim, root_covered, fits_root, fits, root_after}
+use Rattle.utreexo.specs.Claims.{Target, covered, target_at, Proof, proof_of, given, claim_at, claimed, after, root_claim, root_covered, fits_root, root_after}
 use Rattle.targets.proofs.Valid.{Valid}
-use Rattle.climb.specs.Rows.{top, ups, lones, front, pasts, spot, full, carried, used, merge, left_of, Stepped, spent_item, step, met, renew}
+use Rattle.climb.specs.Rows.{top, front, pasts, spot, full, carried, used, merge, left_of, spent_item, step, met, renew}
 use Rattle.laws.proofs.Members.{mem_map}
 use Rattle.climb.proofs.Walk.{top_is, is_top, mem_ups}
 use Rattle.climb.proofs.Merged.{merge_map}
 use Rattle.climb.proofs.Covers.{Under, covered_under, under_covered, under_up, mem_at_row, at_row_mem}
-use Rattle.climb.proofs.Full.{Holds, Is, is, parted}
+use Rattle.climb.proofs.Full.{is, parted}
 use Rattle.climb.specs.Rows.{absent}
-use Rattle.climb.proofs.Wanted.{absent_is, Lacks}
+use Rattle.climb.proofs.Wanted.{absent_is}
 use Rattle.climb.proofs.Picked.{Fits, row_fits}
 use Rattle.climb.specs.Entries.{entry}
 use Rattle.climb.proofs.Claimed.{item_spent, no_target, clear_target, at_target, claim_spent, claim_given, claim_both}

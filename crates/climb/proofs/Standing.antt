@@ -1,5 +1,5 @@
 -- The loops over the rows: what holds when a row begins.
-use Rattle.std.proofs.Common.{◌≡◌, ℕ, zero, suc, ◌+◌, ◌-◌, ◌*◌, ◌/◌, ◌%◌, ◌^◌, ◌<◌, ◌≤◌, min, Bool, true, false, cond, not, ◌&&◌, ◌⊎◌, List, [], ◌∷◌, ◌++◌, map, length, get_or, take, drop, set, Some, None, Option, sym, refl, ap, ◌∙◌, subst, inl, inr, arith, length-append}
+use Rattle.std.proofs.Common.{◌≡◌, ℕ, suc, ◌+◌, ◌*◌, ◌/◌, ◌^◌, ◌<◌, ◌≤◌, Bool, true, cond, not, ◌&&◌, ◌⊎◌, List, [], ◌∷◌, ◌++◌, map, length, get_or, take, drop, set, Some, None, Option, sym, refl, ap, ◌∙◌, subst, inl, inr, arith}
 use Rattle.std.proofs.lemmas.Bool.{cases_eq}
 use Rattle.std.proofs.lemmas.List.{append_assoc, append-nil, drop_more, drop_all, length-take, length-drop, length-set, get_or-set_same, get_or-set_other, map_push}
 use Rattle.utreexo.specs.declared.types.Value.{Value}
@@ -16,7 +16,7 @@ use Rattle.targets.specs.Spends.{target_of, targets}
 use Rattle.climb.specs.Held.{spents, Counted}
 use Rattle.climb.specs.Entries.{entry}
 use Rattle.laws.proofs.Ranges.{length_map_below}
-use Rattle.climb.proofs.Steps.{made, seen}
+use Rattle.climb.proofs.Steps.{made}
 use Rattle.climb.proofs.Picked.{used_all}
 use Rattle.climb.proofs.Lookups.{found_left}
 use Rattle.climb.proofs.Merged.{length_merge}

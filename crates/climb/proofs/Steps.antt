@@ -1,18 +1,14 @@
 -- One row's step takes the claims of a row to those of the row above. Assumes nothing.
-use Rattle.std.proofs.Common.{◌≡◌, ℕ, zero, suc, ◌+◌, ◌-◌, ◌*◌, ◌/◌, ◌%◌, ◌^◌, ◌<◌, ◌≤◌, Bool, true, false, cond, not, ◌&&◌, eqb, ltb, ◌⊎◌, List, [], ◌∷◌, ◌++◌, map, length, get_or, Some, None, Option, sym, refl, ap, ◌∙◌, subst, inl, inr, arith}
-use Rattle.std.proofs.lemmas.Bool.{and_parts, and_from, eqb-true, eq-eqb, ne_eqb, both_ways, cases_eq}
+use Rattle.std.proofs.Common.{◌≡◌, ℕ, suc, ◌+◌, ◌*◌, ◌/◌, ◌%◌, Bool, true, false, cond, not, ◌⊎◌, List, [], ◌∷◌, map, length, get_or, Some, Option, sym, refl, ap, ◌∙◌, subst, inl, inr, arith}
+use Rattle.std.proofs.lemmas.Bool.{cases_eq}
 use Rattle.utreexo.specs.declared.types.Value.{Value}
 use Rattle.climb.specs.declared.item.Item.{Item}
 use Rattle.laws.proofs.Order.{Mem, From}
-use Rattle.utreexo.specs.declared.types.Input.{Input}
-use Rattle.utreexo.specs.declared.types.Input.TheVariants.{Leaf, Pair}
-use Rattle.utreexo.specs.Values.{Image, join}
-use Rattle.utreexo.specs.Forest.{Node, at_node}
-use Rattle.utreexo.specs.Claims.{Target, covered, target_at, Proof, proof_of, no_value, Claim, spent, given, both, claim_at, claimed, after}
-use Rattle.targets.proofs.Valid.{Valid}
-use Rattle.climb.specs.Rows.{top, beside, ups, lones, sib, front, pasts, spot, full, carried, used, merge, left_of, Stepped, before, spent_item, twin, hashed, lone, step}
-use Rattle.climb.proofs.Walk.{walk, next, alone, beside_is, top_is, ups_root, ups_pair, ups_lone, lones_root, lones_pair, lones_lone}
-use Rattle.climb.specs.Entries.{item_of, entry}
+use Rattle.utreexo.specs.Values.{Image}
+use Rattle.utreexo.specs.Claims.{Proof, no_value, given, both, claim_at}
+use Rattle.climb.specs.Rows.{top, beside, ups, lones, sib, Stepped, before, twin, lone, step}
+use Rattle.climb.proofs.Walk.{walk, alone, beside_is, top_is, ups_root, ups_pair, ups_lone, lones_root, lones_pair, lones_lone}
+use Rattle.climb.specs.Entries.{entry}
 use Rattle.climb.proofs.Claimed.{item_both, item_left, item_right}
 
 abbrev pub alone_item : Item → List Item → Bool

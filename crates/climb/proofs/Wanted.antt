@@ -1,21 +1,20 @@
 -- The siblings that are missing, row by row, are the needed positions in order. Assumes nothing.
-use Rattle.std.proofs.Common.{◌≡◌, ℕ, zero, suc, ◌+◌, ◌-◌, ◌*◌, ◌/◌, ◌%◌, ◌^◌, ◌<◌, ◌≤◌, Bool, true, false, cond, not, ◌&&◌, eqb, ltb, ◌⊎◌, List, [], ◌∷◌, ◌++◌, map, length, get_or, is_some, Some, None, Option, sym, refl, ap, ◌∙◌, subst, inl, inr, arith}
-use Rattle.std.proofs.lemmas.Bool.{and_parts, and_from, cases_Bool, cases_eq, not-true, not_from_false, eq-eqb, ne_eqb, both_ways}
-use Rattle.utreexo.specs.declared.types.Value.{Value}
+use Rattle.std.proofs.Common.{◌≡◌, ℕ, zero, suc, ◌+◌, ◌-◌, ◌*◌, ◌/◌, ◌%◌, ◌^◌, ◌<◌, ◌≤◌, Bool, true, false, not, ◌&&◌, ◌⊎◌, List, [], ◌∷◌, map, is_some, Some, None, Option, sym, refl, ap, ◌∙◌, subst, inl, inr, arith}
+use Rattle.std.proofs.lemmas.Bool.{and_parts, and_from, cases_eq, not-true, not_from_false, eq-eqb, ne_eqb, both_ways}
 use Rattle.laws.proofs.Order.{Mem, From}
-use Rattle.utreexo.specs.Lists.{below, filter}
+use Rattle.utreexo.specs.Lists.{below}
 use Rattle.utreexo.specs.Forest.{Node, at_node, tree_of, locate, position, rows, sibling}
-use Rattle.utreexo.specs.Claims.{Target, covered, is_needed, needed_at, needed, pick, no_value}
+use Rattle.utreexo.specs.Claims.{Target, covered, is_needed, needed_at, needed}
 use Rattle.targets.proofs.Valid.{Valid}
-use Rattle.climb.specs.Rows.{full, lones, sib, top, absent, numbers, wanted}
-use Rattle.laws.proofs.Ordered.{same_list, from_weaker, from_mem, filter_from}
+use Rattle.climb.specs.Rows.{full, sib, absent, numbers, wanted}
+use Rattle.laws.proofs.Ordered.{same_list, from_weaker, filter_from}
 use Rattle.climb.proofs.Lists.{from_append}
 use Rattle.laws.proofs.Members.{filter_mem, mem_filter, mem_append, append_mem_left, append_mem_right, map_mem, mem_map}
-use Rattle.laws.proofs.Ranges.{below_from, mem_below, below_mem}
-use Rattle.climb.proofs.Walk.{lones_from, lones_mem, mem_lones, Missing, not_top, top_not}
-use Rattle.targets.proofs.Inside.{half_row, tree_inside, inside_tree, row_low, number_next, number_up, number_low, locates, Located, located}
+use Rattle.laws.proofs.Ranges.{below_from, below_mem}
+use Rattle.climb.proofs.Walk.{lones_from, lones_mem, mem_lones, not_top, top_not}
+use Rattle.targets.proofs.Inside.{half_row, tree_inside, inside_tree, row_low, number_next, number_up, number_low, locates, located}
 use Rattle.climb.proofs.Covers.{Under, covered_under, under_covered}
-use Rattle.climb.proofs.Full.{Holds, Is, is}
+use Rattle.climb.proofs.Full.{is}
 
 pub sibling_is : (o : ℕ) → sibling o ≡ sib o
 sibling_is o = go (cases_eq (o % 2) 0)

@@ -1,12 +1,10 @@
 -- One row's step up, and the fold over the rows: what the code computes, on lists.
-use Rattle.std.specs.Prelude.{◌≡◌, ℕ, zero, suc, ◌+◌, ◌-◌, ◌*◌, ◌/◌, ◌%◌, ◌^◌, Bool, true, false, cond, not, ◌&&◌, ltb, List, [], ◌∷◌, ◌++◌, map, length, Some, None, Option, ◌==◌, nat_lt, slice_index_or}
+use Rattle.std.specs.Prelude.{ℕ, zero, suc, ◌+◌, ◌-◌, ◌*◌, ◌/◌, ◌%◌, ◌^◌, Bool, true, false, cond, ◌&&◌, ltb, List, [], ◌∷◌, ◌++◌, map, length, Some, None, Option, ◌==◌, nat_lt, slice_index_or}
 use Rattle.utreexo.specs.declared.types.Value.{Value}
-use Rattle.utreexo.specs.declared.types.Coin.{Coin}
 use Rattle.climb.specs.declared.item.Item.{Item}
-use Rattle.utreexo.specs.declared.types.Input.{Input}
 use Rattle.utreexo.specs.declared.types.Input.TheVariants.{Leaf, Pair}
 use Rattle.utreexo.specs.Values.{Image, join, same_value}
-use Rattle.utreexo.specs.Forest.{at_node, position}
+use Rattle.utreexo.specs.Forest.{position}
 use Rattle.utreexo.specs.Claims.{Target, no_value}
 
 -- place o is the root of its tree, in a row of w places

@@ -6,7 +6,7 @@ use Rattle.place.proofs.Powers.{pow_next, length_once}
 use Rattle.place.proofs.Numbers.{Numbered}
 use Rattle.keeper.proofs.Runs.{run_in, halves}
 use Rattle.full_keeper.specs.Table.{index, Least}
-use Rattle.full_keeper.proofs.Rows.{Fitting, fitting}
+use Rattle.full_keeper.proofs.Rows.{fitting}
 
 -- place o of row r, d rows below the top
 abbrev pub Indexed : ℕ → ℕ → ℕ → ℕ → Type 0

@@ -1,5 +1,5 @@
 -- Rows that are copied from one layout of the table to another.
-use Rattle.std.proofs.Common.{◌≡◌, ℕ, suc, ◌+◌, ◌-◌, ◌*◌, ◌/◌, ◌^◌, ◌<◌, ◌≤◌, length, get_or, None, Option, sym, refl, ap, ◌∙◌, subst, ⊎_elim, div-mul-le_self, le_of_mul-le-mul_right, arith, pow_pos, pow_mono, pow-add}
+use Rattle.std.proofs.Common.{◌≡◌, ℕ, ◌+◌, ◌-◌, ◌*◌, ◌/◌, ◌^◌, ◌<◌, ◌≤◌, length, get_or, None, Option, sym, refl, ap, ◌∙◌, subst, ⊎_elim, div-mul-le_self, le_of_mul-le-mul_right, arith, pow_pos, pow_mono, pow-add}
 use Rattle.std.proofs.lemmas.Bool.{cases_lt}
 use Rattle.utreexo.specs.declared.types.Value.{Value}
 use Rattle.place.proofs.Powers.{pow_next}

@@ -5,7 +5,7 @@ use Rattle.utreexo.specs.Values.{Image, join}
 use Rattle.utreexo.specs.Forest.{Slots, leaf_value, value_over}
 use Rattle.keeper.proofs.Runs.{halves, value_node}
 use Rattle.full_keeper.specs.Table.{Table, index, Stored, StoredBut}
-use Rattle.full_keeper.proofs.Indices.{index_0, Reach, reach}
+use Rattle.full_keeper.proofs.Indices.{index_0, reach}
 use Rattle.full_keeper.proofs.Values.{stored_step, stored_all}
 
 -- the leaf's entry of slot i is written

@@ -10,7 +10,7 @@ use Rattle.utreexo.specs.Values.{Image}
 use Rattle.utreexo.specs.Forest.{Slots, leaf_value, value_over}
 use Rattle.keeper.proofs.Runs.{run_up, run_out}
 use Rattle.full_keeper.specs.Table.{Table, index, Stored, StoredBut, Laid}
-use Rattle.full_keeper.proofs.Indices.{Indexed, indexed, index_once, index_in}
+use Rattle.full_keeper.proofs.Indices.{indexed, index_once, index_in}
 
 module _ (image : Image) where
   -- a value is worked out from the slots of its run alone

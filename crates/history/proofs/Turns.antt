@@ -1,5 +1,5 @@
 -- A push and a pop, seen in the stack of a ring.
-use Rattle.std.proofs.Common.{◌≡◌, ℕ, zero, suc, ◌+◌, ◌-◌, ◌<◌, ◌≤◌, min, ◌⊎◌, List, [], ◌∷◌, ◌++◌, reverse, length, get_or, take, drop, set, Some, sym, refl, ap, ◌∙◌, inl, inr, append_assoc, append-nil, arith, length-append, length-drop, length-set, length-take, take_all, drop-cons, get_or-take, take-suc, get_or-set_same, take-take, drop-set-lt}
+use Rattle.std.proofs.Common.{◌≡◌, ℕ, zero, suc, ◌+◌, ◌-◌, ◌<◌, ◌≤◌, min, List, [], ◌∷◌, ◌++◌, reverse, length, get_or, take, drop, set, Some, sym, ap, ◌∙◌, inl, inr, append_assoc, append-nil, arith, length-append, length-drop, length-set, length-take, take_all, drop-cons, get_or-take, take-suc, get_or-set_same, take-take, drop-set-lt}
 use mathlib.Core.List.{reverse-append, reverse-cons}
 use lib.ListN.{length-reverse}
 use lib.Seq.{take-append-le, take-set-le, take-set-lt, take-nil}

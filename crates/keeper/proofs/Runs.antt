@@ -1,5 +1,5 @@
 -- Runs within a count, and the values over them.
-use Rattle.std.proofs.Common.{◌≡◌, ℕ, zero, suc, ◌+◌, ◌-◌, ◌*◌, ◌/◌, ◌^◌, ◌<◌, ◌≤◌, true, false, ltb, get_or, None, sym, refl, ap, ◌∙◌, ⊎_elim, mul-le-mul_right, div-mul-le_self, arith, pow_pos, pow_mono, shr-shr}
+use Rattle.std.proofs.Common.{◌≡◌, ℕ, zero, suc, ◌+◌, ◌-◌, ◌*◌, ◌/◌, ◌^◌, ◌<◌, ◌≤◌, false, ltb, get_or, None, sym, ap, ◌∙◌, ⊎_elim, mul-le-mul_right, div-mul-le_self, arith, pow_pos, pow_mono, shr-shr}
 use Rattle.std.proofs.lemmas.Nat.{le-div}
 use Rattle.std.proofs.lemmas.Bool.{cases_lt, lt-ltb, le-ltb, le-leb, lt-leb}
 use Rattle.utreexo.specs.Values.{Image, join}

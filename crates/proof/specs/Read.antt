@@ -1,5 +1,4 @@
 -- Reading the lists of a block.
-use Rattle.std.specs.Prelude.{List}
 use Rattle.utreexo.specs.declared.types.Position.{Position}
 use Rattle.utreexo.specs.Bytes.{Bytes, number_in}
 

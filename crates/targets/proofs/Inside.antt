@@ -1,11 +1,11 @@
 -- Places of the forest: those below n / 2 ^ row; their numbers, row after row.
-use Rattle.std.proofs.Common.{◌≡◌, ℕ, zero, suc, ◌+◌, ◌-◌, ◌*◌, ◌/◌, ◌^◌, ◌<◌, ◌≤◌, true, false, ltb, is_some, Some, None, Option, sym, refl, ap, ◌∙◌, arith, pow_pos, pow_mono, shr-shr}
+use Rattle.std.proofs.Common.{◌≡◌, ℕ, zero, suc, ◌+◌, ◌-◌, ◌*◌, ◌/◌, ◌^◌, ◌<◌, ◌≤◌, true, false, is_some, Some, None, Option, sym, refl, ap, ◌∙◌, arith, pow_pos, pow_mono, shr-shr}
 use native.Mathlib.Nat.{div-eq_of_lt, pow-succ'}
 use Rattle.std.proofs.lemmas.Bool.{ltb-true, lt-ltb}
 use Rattle.utreexo.specs.Forest.{Node, at_node, position, rows, locate, tree_of}
 use Rattle.laws.proofs.Logic.{true_false}
 use Rattle.laws.proofs.Places.{up_shr}
-use Rattle.laws.proofs.Positions.{rows_ok, in_rows, Located as Found, locate_is, over_in_row}
+use Rattle.laws.proofs.Positions.{rows_ok, in_rows, locate_is, over_in_row}
 use Rattle.laws.proofs.Laws.{one_position, inside_exactly}
 
 -- a row up there are half as many places

@@ -1,12 +1,11 @@
 use Rattle.std.proofs.Common.{◌≡◌, ◌/◌, ◌^◌, ◌<◌, List, length, None, ap, ◌∙◌, arith}
-use Rattle.targets.specs.declared.spend.Spend.{Spend}
 use Rattle.targets.specs.Targets.{placed}
-use Rattle.targets.proofs.Valid.{Valid, valid_is}
+use Rattle.targets.proofs.Valid.{valid_is}
 use Rattle.std.proofs.lemmas.List.{length-map}
 use Rattle.climb.specs.declared.item.Item.{Item}
 use Rattle.climb.specs.Rows.{merge, left_of, step}
 use Rattle.climb.specs.Held.{held, spents, hashes_in}
-use Rattle.climb.proofs.Standing.{Standing, standing_none, standing_more, Done, standing_all}
+use Rattle.climb.proofs.Standing.{standing_none, standing_more, standing_all}
 use Rattle.climb.proofs.climb.climb.Goals as goal
 
 pub loop-row-init : goal.loop-row-init

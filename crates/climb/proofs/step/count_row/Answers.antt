@@ -1,4 +1,4 @@
-use Rattle.climb.proofs.Merging.{counting_none, counting_more, counting_stop, counting_all}
+use Rattle.climb.proofs.Merging.{counting_more, counting_stop, counting_all}
 use Rattle.climb.proofs.step.count_row.Goals as goal
 
 pub returns-then-spends-k : goal.returns-then-spends-k

@@ -1,5 +1,5 @@
 use Rattle.std.proofs.Common.{arith}
-use Rattle.climb.proofs.Merging.{Merging, left_within, merging_none, merging_left, merging_right, merging_rest, merging_all}
+use Rattle.climb.proofs.Merging.{left_within, merging_left, merging_right, merging_rest, merging_all}
 use Rattle.climb.proofs.step.merge_row.Goals as goal
 
 pub loop-j-smaller-in-Some : goal.loop-j-smaller-in-Some

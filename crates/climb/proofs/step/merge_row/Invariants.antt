@@ -1,4 +1,4 @@
-use Rattle.std.proofs.Common.{◌+◌, ◌-◌, ◌≤◌, length}
+use Rattle.std.proofs.Common.{◌+◌, ◌-◌, length}
 use Rattle.climb.specs.Held.{held}
 use Rattle.climb.proofs.Merging.{Merging}
 use Rattle.climb.proofs.step.merge_row.Given as goal

@@ -1,5 +1,5 @@
 use Rattle.std.proofs.Common.{arith}
-use Rattle.climb.proofs.Going.{Going, going_none, going_root, going_both, going_lone, going_all}
+use Rattle.climb.proofs.Going.{going_root, going_both, going_lone, going_all}
 use Rattle.climb.proofs.step.step_row.Goals as goal
 
 pub loop-i-preserved-then-is_top : goal.loop-i-preserved-then-is_top

@@ -1,6 +1,6 @@
-use Rattle.std.proofs.Common.{◌≡◌, length, set, vec_items, vec_len, sym, refl, ◌∙◌, arith, length-set}
+use Rattle.std.proofs.Common.{◌≡◌, length, vec_items, vec_len, sym, refl, arith}
 use Rattle.std.proofs.lemmas.List.{with_items_is}
-use Rattle.full_keeper.proofs.Rows.{Fitting, fitting, from_positions, to_positions}
+use Rattle.full_keeper.proofs.Rows.{fitting, from_positions, to_positions}
 use Rattle.full_keeper.proofs.Values.{set_stored}
 use Rattle.full_keeper.proofs.Full.put.Goals as goal
 

@@ -2,7 +2,7 @@ use Rattle.std.proofs.Common.{◌≡◌, ◌+◌, length, Some, vec_items, vec_l
 use Rattle.std.specs.Vec.{with_items}
 use Rattle.std.proofs.lemmas.List.{with_items_is}
 use Rattle.full_keeper.specs.Table.{Least}
-use Rattle.full_keeper.proofs.Rows.{Fitting, fitting, from_positions, to_positions}
+use Rattle.full_keeper.proofs.Rows.{fitting, from_positions, to_positions}
 use Rattle.full_keeper.proofs.Values.{push_stored, laid_stored}
 use Rattle.full_keeper.proofs.FullKeeper.append.Goals as goal
 

@@ -1,7 +1,7 @@
-use Rattle.std.proofs.Common.{◌≡◌, ◌+◌, ◌-◌, length, take, vec_items, vec_len, sym, refl, ap, ◌∙◌, subst, arith, length-take}
+use Rattle.std.proofs.Common.{◌≡◌, ◌+◌, ◌-◌, length, take, vec_items, vec_len, refl, ap, ◌∙◌, subst, arith, length-take}
 use Rattle.std.proofs.lemmas.List.{with_items_is}
 use Rattle.full_keeper.specs.Table.{Least}
-use Rattle.full_keeper.proofs.Rows.{Fitting, fitting, from_positions, to_positions}
+use Rattle.full_keeper.proofs.Rows.{fitting, from_positions, to_positions}
 use Rattle.full_keeper.proofs.Values.{stored_take, laid_stored}
 use Rattle.full_keeper.proofs.FullKeeper.cut.Goals as goal
 

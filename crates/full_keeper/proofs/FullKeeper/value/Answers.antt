@@ -1,10 +1,10 @@
-use Rattle.std.proofs.Common.{◌≡◌, ◌+◌, ◌*◌, ◌/◌, ◌^◌, ◌<◌, ◌≤◌, true, length, get_or, None, Ok, vec_items, vec_len, sym, ap, ◌∙◌, subst, arith}
+use Rattle.std.proofs.Common.{◌≡◌, ◌+◌, ◌*◌, ◌/◌, ◌^◌, ◌<◌, true, length, get_or, None, Ok, vec_items, vec_len, sym, ap, ◌∙◌, subst, arith}
 use borrow.Author.Tests.{true-leb}
 use Rattle.std.proofs.lemmas.List.{get_or_read_under}
 use Rattle.std.proofs.lemmas.Bool.{le-leb, cond-true}
 use Rattle.keeper.specs.Calls.{run_within}
 use Rattle.full_keeper.proofs.Rows.{from_positions}
-use Rattle.full_keeper.proofs.Indices.{Readable, readable}
+use Rattle.full_keeper.proofs.Indices.{readable}
 use Rattle.full_keeper.proofs.FullKeeper.value.Goals as goal
 
 pub index_of-at-requires : goal.index_of-at-requires

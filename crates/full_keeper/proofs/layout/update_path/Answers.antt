@@ -1,6 +1,6 @@
-use Rattle.std.proofs.Common.{◌≡◌, length, set, arith, length-set, pow_mono}
+use Rattle.std.proofs.Common.{length, set, arith, length-set, pow_mono}
 use Rattle.place.proofs.Powers.{pow_next}
-use Rattle.full_keeper.proofs.Indices.{Reach, reach}
+use Rattle.full_keeper.proofs.Indices.{reach}
 use Rattle.full_keeper.proofs.Paths.{stored_leaf, updating_none, updating_node, updating_all}
 use Rattle.full_keeper.proofs.layout.update_path.Goals as goal
 

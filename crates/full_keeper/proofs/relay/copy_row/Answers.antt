@@ -1,4 +1,4 @@
-use Rattle.std.proofs.Common.{◌/◌, ◌^◌, length, arith}
+use Rattle.std.proofs.Common.{◌/◌, ◌^◌, arith}
 use Rattle.full_keeper.specs.Table.{index}
 use Rattle.full_keeper.proofs.Moves.{row_in, copied}
 use Rattle.full_keeper.proofs.relay.copy_row.Goals as goal

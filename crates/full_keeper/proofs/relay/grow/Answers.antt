@@ -1,4 +1,4 @@
-use Rattle.std.proofs.Common.{◌+◌, length, arith}
+use Rattle.std.proofs.Common.{◌+◌, arith}
 use Rattle.std.proofs.lemmas.Nat.{one_shl}
 use Rattle.place.proofs.Powers.{pow_less}
 use Rattle.full_keeper.proofs.Rows.{least_next}

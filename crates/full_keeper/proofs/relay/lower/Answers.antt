@@ -1,4 +1,4 @@
-use Rattle.std.proofs.Common.{◌+◌, length, arith}
+use Rattle.std.proofs.Common.{◌+◌, arith}
 use Rattle.place.proofs.Powers.{pow_next}
 use Rattle.full_keeper.proofs.Moves.{lower_none, lower_more, lower_all}
 use Rattle.full_keeper.proofs.relay.lower.Goals as goal

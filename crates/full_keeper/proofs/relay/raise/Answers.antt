@@ -1,4 +1,4 @@
-use Rattle.std.proofs.Common.{◌+◌, length, subst, arith}
+use Rattle.std.proofs.Common.{◌+◌, subst, arith}
 use Rattle.place.proofs.Powers.{pow_next}
 use Rattle.full_keeper.proofs.Moves.{Raised, raise_none, raise_more, raise_all}
 use Rattle.full_keeper.proofs.relay.raise.Goals as goal

@@ -1,4 +1,4 @@
-use Rattle.std.proofs.Common.{◌≡◌, ◌+◌, ◌-◌, ◌^◌, ◌<◌, ◌≤◌, length, sym, refl, subst, arith}
+use Rattle.std.proofs.Common.{◌≡◌, ◌+◌, ◌-◌, ◌^◌, ◌≤◌, length, refl, subst, arith}
 use Rattle.std.proofs.lemmas.Nat.{one_shl}
 use Rattle.full_keeper.specs.Table.{Laid}
 use Rattle.full_keeper.proofs.Rows.{least_kept, least_back}

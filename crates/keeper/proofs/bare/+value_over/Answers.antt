@@ -1,4 +1,4 @@
-use Rattle.std.proofs.Common.{◌≡◌, ◌-◌, ◌<◌, length, ap, arith, rules}
+use Rattle.std.proofs.Common.{length, arith, rules}
 use Rattle.keeper.proofs.Runs.{halves, value_leaf, value_node}
 use Rattle.keeper.proofs.bare.+value_over.Goals as goal
 

@@ -1,6 +1,5 @@
-use Rattle.std.proofs.Common.{◌≡◌, List, sym, ap, ◌∙◌}
+use Rattle.std.proofs.Common.{ap, ◌∙◌}
 use Rattle.utreexo.specs.Lists.{any}
-use Rattle.utreexo.specs.Claims.{Target}
 use Rattle.utreexo.specs.Checks.{blank_over}
 use Rattle.targets.specs.Targets.{placed}
 use Rattle.targets.proofs.Placing.{any_here, any_more, any_done}

@@ -1,5 +1,5 @@
-use Rattle.std.proofs.Common.{◌≡◌, ◌+◌, ◌≤◌, sym, ap, arith}
-use Rattle.proof.proofs.Listing.{Listing, listing_none, listing_room, listing_more}
+use Rattle.std.proofs.Common.{arith}
+use Rattle.proof.proofs.Listing.{listing_none, listing_room, listing_more}
 use Rattle.proof.proofs.records.read_all.Goals as goal
 
 pub loop-i-init : goal.loop-i-init

@@ -1,5 +1,5 @@
 use Rattle.utreexo.specs.Lists.{any}
-use Rattle.targets.specs.Spends.{target_of, targets}
+use Rattle.targets.specs.Spends.{targets}
 use Rattle.targets.specs.Targets.{strictly_above}
 use Rattle.targets.proofs.Placing.{any_here, any_more, any_done}
 use Rattle.targets.proofs.checks.any_above.Goals as goal

@@ -1,6 +1,6 @@
 use Rattle.std.proofs.Common.{◌≡◌, drop}
 use Rattle.utreexo.specs.Lists.{any}
-use Rattle.targets.specs.Spends.{target_of, targets}
+use Rattle.targets.specs.Spends.{targets}
 use Rattle.targets.specs.Targets.{strictly_above}
 use Rattle.targets.proofs.checks.any_above.Given as goal
 

@@ -1,5 +1,4 @@
-use Rattle.utreexo.specs.Lists.{any}
-use Rattle.targets.specs.Spends.{target_of, targets}
+use Rattle.targets.specs.Spends.{target_of}
 use Rattle.targets.specs.Targets.{strictly_above}
 use Rattle.targets.proofs.Placing.{any_here, any_more, any_done}
 use Rattle.targets.proofs.checks.is_above_any.Goals as goal

@@ -1,5 +1,5 @@
 use Rattle.std.proofs.Common.{refl, arith}
-use Rattle.targets.proofs.Placing.{Placing, placing_more, placing_outside, placing_all}
+use Rattle.targets.proofs.Placing.{placing_more, placing_outside, placing_all}
 use Rattle.targets.proofs.checks.place_all.Goals as goal
 
 pub returns-in_default : goal.returns-in_default

@@ -1,15 +1,15 @@
-use Rattle.std.proofs.Common.{◌≡◌, ◌/◌, ◌^◌, ◌<◌, ◌≤◌, List, [], ◌++◌, map, length, None, ap, ◌∙◌, arith}
+use Rattle.std.proofs.Common.{◌≡◌, ◌/◌, ◌^◌, ◌<◌, List, [], ◌++◌, map, length, None, ap, ◌∙◌, arith}
 use Rattle.utreexo.specs.Values.{Image}
 use Rattle.utreexo.specs.Claims.{no_value, proof_of}
 use Rattle.utreexo.specs.Forest.{at_node}
 use Rattle.targets.specs.Targets.{placed}
-use Rattle.targets.proofs.Valid.{Valid, valid_is}
+use Rattle.targets.proofs.Valid.{valid_is}
 use Rattle.climb.specs.declared.item.Item.{Item}
 use Rattle.climb.specs.Rows.{merge, left_of, step, lones}
 use Rattle.climb.specs.Held.{held, spents}
 use Rattle.climb.specs.Needed.{nodes_of, places}
-use Rattle.climb.proofs.Standing.{Rising, rising_more, merged_is, merged_low}
-use Rattle.climb.proofs.Lacking.{Lacked, lacked_more, lacked_all}
+use Rattle.climb.proofs.Standing.{rising_more, merged_is, merged_low}
+use Rattle.climb.proofs.Lacking.{lacked_more, lacked_all}
 use Rattle.climb.proofs.needed.Needed.of.Goals as goal
 
 pub loop-row-preserved : goal.loop-row-preserved

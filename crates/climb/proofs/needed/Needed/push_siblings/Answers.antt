@@ -1,5 +1,4 @@
-use Rattle.std.proofs.Common.{arith}
-use Rattle.climb.proofs.Lacking.{Lacking, lacking_root, lacking_both, lacking_lone, lacking_all}
+use Rattle.climb.proofs.Lacking.{lacking_root, lacking_both, lacking_lone, lacking_all}
 use Rattle.climb.proofs.needed.Needed.push_siblings.Goals as goal
 
 pub loop-i-preserved-then-is_top : goal.loop-i-preserved-then-is_top
