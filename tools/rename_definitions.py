@@ -4,7 +4,8 @@
 usage: python3 tools/rename_definitions.py [ROOT]
 
 definition_names.txt, beside this file, has a line 'old new' for each name. A name is replaced where it stands whole: in the .antt, .rt
-and .edit files below ROOT/crates, but not in a string. It was run once, after the toolchain's own script had turned the rest.
+and .edit files below ROOT/crates, but not in a string. It is for one run, after the toolchain's own script has turned the rest: a new
+name may be another's old one.
 """
 import os
 import re

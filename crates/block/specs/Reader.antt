@@ -143,8 +143,8 @@ read_as es = record { targets = gathered target_in es; spent = gathered spent_in
 -- The reader's run over a readable block, begun with this offset for the entry before the first, and with as many calls as there are
 -- entries or more, gives exactly these. They are the block's entries, and their bytes, after the six of the counts, join up to it.
 abbrev pub RunReads : ℕ → Type 0
-RunReads before-first = (b : Bytes) → refusal (read_causes b) ≡ None → (more : ℕ) →
+RunReads before_first = (b : Bytes) → refusal (read_causes b) ≡ None → (more : ℕ) →
     let c = counts_in b in
-    (read_run (c.spent + (c.spent + (c.hashes + (c.coins + more)))) c before-first (drop 6 b) ≡ all_entries b)
+    (read_run (c.spent + (c.spent + (c.hashes + (c.coins + more)))) c before_first (drop 6 b) ≡ all_entries b)
     × (read_as (all_entries b) ≡ entries b)
     × (take 6 b ++ concat (map (λ e. bytes_of e.0) (all_entries b)) ≡ b)

@@ -57,19 +57,19 @@ module _ (image : Image) (n : ℕ) (ts : List Target) (hs : List Value) where
     pub next_low : next ≤ 32 * r
 
   -- and whether the roots so far fit, the roots so far, and the table's rows so far
-  pub record Standing (roots : List (Option Value)) (r : ℕ) (items : List Item) (left : List Spend) (next : ℕ) (fitting : Bool) (roots-now : List (Option Value)) (table : List (List Item)) : Type 0 where
+  pub record Standing (roots : List (Option Value)) (r : ℕ) (items : List Item) (left : List Spend) (next : ℕ) (fitting : Bool) (roots_now : List (Option Value)) (table : List (List Item)) : Type 0 where
     pub rising : Rising r items left next
     pub fitting_is : fitting ≡ not (any (λ k. not (fits_root image (proof_of n ts hs) roots k)) (below r))
-    pub size : length roots-now ≡ 32
-    pub roots_are : roots-now ≡ map (root_after image (proof_of n ts hs) roots) (below r) ++ drop r roots
+    pub size : length roots_now ≡ 32
+    pub roots_are : roots_now ≡ map (root_after image (proof_of n ts hs) roots) (below r) ++ drop r roots
     pub tall : length table ≡ 32
     pub told : (j : ℕ) → j < r → get_or table j [] ≡ map (entry image (proof_of n ts hs) j) (full n ts j)
 
   -- all rows are done
-  pub record Done (roots : List (Option Value)) (next : ℕ) (fitting : Bool) (roots-now : List (Option Value)) (table : List (List Item)) : Type 0 where
+  pub record Done (roots : List (Option Value)) (next : ℕ) (fitting : Bool) (roots_now : List (Option Value)) (table : List (List Item)) : Type 0 where
     pub all_used : next ≡ length (needed n ts)
     pub all_fit : fitting ≡ fits image (proof_of n ts hs) roots
-    pub all_roots : roots-now ≡ map (root_after image (proof_of n ts hs) roots) (below 32)
+    pub all_roots : roots_now ≡ map (root_after image (proof_of n ts hs) roots) (below 32)
     pub all_told : (r o : ℕ) → o < n / 2 ^ r → left_at (lookup (get_or table r []) o) ≡ cond (covered ts (at_node r o)) (Some (after image (claim_at (proof_of n ts hs) r o))) None
 
 module _ {image : Image} {n : ℕ} {ts : List Target} {hs : List Value} where
@@ -78,12 +78,12 @@ module _ {image : Image} {n : ℕ} {ts : List Target} {hs : List Value} where
 
   -- a row's targets are merged in, and the row is taken up
   module _ (v : Valid n ts) {r : ℕ} {items : List Item} {left : List Spend} {next : ℕ} (was : Rising image n ts hs r items left next) (low : r < 32)
-      (k : ℕ) (part : Counted r left k) (here higher : List Spend) (here-is : here ≡ take k left) (higher-is : higher ≡ drop k left) where
+      (k : ℕ) (part : Counted r left k) (here higher : List Spend) (here_is : here ≡ take k left) (higher_is : higher ≡ drop k left) where
     pub merged_is : merge left_of items (spents image here) ≡ map (entry image (proof_of n ts hs) r) (full n ts r)
     merged_is =
         ap (λ (l : List Item). merge left_of l (spents image here)) was.items_are
         ∙ ap (merge left_of (map (entry image (proof_of n ts hs) r) (carried n ts r)))
-        (spents_targets image here ∙ ap (λ (l : List Spend). map (spent_item image) (targets l)) here-is ∙ ap (map (spent_item image)) (part.taken ∙ ap (front r) was.left_is))
+        (spents_targets image here ∙ ap (λ (l : List Spend). map (spent_item image) (targets l)) here_is ∙ ap (map (spent_item image)) (part.taken ∙ ap (front r) was.left_is))
         ∙ row_merged image v hs r
 
     abbrev risen : Stepped
@@ -99,12 +99,12 @@ module _ {image : Image} {n : ℕ} {ts : List Target} {hs : List Value} where
     merged_few = let a = length_merge left_of items (spents image here) in let b = length_spents image here in omega arith
 
     pub merged_low : length (merge left_of items (spents image here)) ≤ 32
-    merged_low = let a = merged_few in let b = ap length here-is in let c = length-take k left in let d = was.few in let e = part.within in omega arith
+    merged_low = let a = merged_few in let b = ap length here_is in let c = length-take k left in let d = was.few in let e = part.within in omega arith
 
-    module _ (merged : List Item) (merged-so : merged ≡ merge left_of items (spents image here)) (parents : List Item) (aside : Option Item) (next' : ℕ)
-        (Made-so : made parents aside next' ≡ step image hs (n / 2 ^ r) next None merged) (bound : next' ≤ next + length merged) (room : length parents ≤ length merged) where
+    module _ (merged : List Item) (merged_so : merged ≡ merge left_of items (spents image here)) (parents : List Item) (aside : Option Item) (next' : ℕ)
+        (made_so : made parents aside next' ≡ step image hs (n / 2 ^ r) next None merged) (bound : next' ≤ next + length merged) (room : length parents ≤ length merged) where
       made_is : made parents aside next' ≡ risen
-      made_is = Made-so ∙ stepped merged merged-so
+      made_is = made_so ∙ stepped merged merged_so
 
       pub aside_is : aside ≡ set_aside image v hs r
       aside_is = ap (λ (s : Stepped). s.aside) made_is
@@ -114,9 +114,9 @@ module _ {image : Image} {n : ℕ} {ts : List Target} {hs : List Value} where
           let one : suc r ≡ r + 1 = omega arith in
           let a = length-take k left in
           let b = length-drop k left in
-          let c = ap length here-is in
-          let d = ap length higher-is in
-          let e = ap length merged-so in
+          let c = ap length here_is in
+          let d = ap length higher_is in
+          let e = ap length merged_so in
           let f = merged_few in
           let inside = part.within in
           let w = was.few in
@@ -125,7 +125,7 @@ module _ {image : Image} {n : ℕ} {ts : List Target} {hs : List Value} where
           (record {
             few = omega arith;
             items_are = ap (λ (s : Stepped). s.parents) made_is;
-            left_is = ap targets higher-is ∙ part.rest ∙ ap (past r) was.left_is;
+            left_is = ap targets higher_is ∙ part.rest ∙ ap (past r) was.left_is;
             next_is = ap (λ (s : Stepped). s.next) made_is;
             next_low = omega arith;
           })
@@ -135,28 +135,28 @@ module _ {image : Image} {n : ℕ} {ts : List Target} {hs : List Value} where
         → Standing image n ts hs roots 0 items left 0 true roots table
     standing_none e f l s t = record { rising = rising_none e f l; fitting_is = refl; size = s; roots_are = refl; tall = t; told = λ j less. absurd (omega arith) }
 
-    pub standing_more : (v : Valid n ts) {r : ℕ} {items : List Item} {left : List Spend} {next : ℕ} {fitting : Bool} {roots-now : List (Option Value)} {table : List (List Item)}
-        → Standing image n ts hs roots r items left next fitting roots-now table → r < 32 → length roots ≡ 32
-        → (k : ℕ) (part : Counted r left k) (here higher : List Spend) (here-is : here ≡ take k left) (higher-is : higher ≡ drop k left)
+    pub standing_more : (v : Valid n ts) {r : ℕ} {items : List Item} {left : List Spend} {next : ℕ} {fitting : Bool} {roots_now : List (Option Value)} {table : List (List Item)}
+        → Standing image n ts hs roots r items left next fitting roots_now table → r < 32 → length roots ≡ 32
+        → (k : ℕ) (part : Counted r left k) (here higher : List Spend) (here_is : here ≡ take k left) (higher_is : higher ≡ drop k left)
         → (merged : List Item) → merged ≡ merge left_of items (spents image here) → (parents : List Item) (aside : Option Item) (next' : ℕ)
         → made parents aside next' ≡ step image hs (n / 2 ^ r) next None merged → next' ≤ next + length merged → length parents ≤ length merged
         → (m : Bool) → m ≡ met aside (get_or roots r None) → (fitting' : Bool) → fitting' ≡ (fitting && m)
         → (z : Option Value) → z ≡ renew aside (get_or roots r None) → (table' : List (List Item)) → table' ≡ set table r merged
-        → Standing image n ts hs roots (r + 1) parents higher next' fitting' (set roots-now r z) table'
-    standing_more v {r} {items} {left} {next} {fitting} {roots-now} {table} w low whole k part here higher he ge merged me parents aside next' e bound room m ml fitting' se z ze table' te =
+        → Standing image n ts hs roots (r + 1) parents higher next' fitting' (set roots_now r z) table'
+    standing_more v {r} {items} {left} {next} {fitting} {roots_now} {table} w low whole k part here higher he ge merged me parents aside next' e bound room m ml fitting' se z ze table' te =
         let one : r + 1 ≡ suc r = omega arith in
         let up = rising_more v w.rising low k part here higher he ge merged me parents aside next' e bound room in
-        let aside-so = aside_is v w.rising low k part here higher he ge merged me parents aside next' e bound room in
-        let met_is : m ≡ fits_root image (proof_of n ts hs) roots r = ml ∙ ap (λ (a : Option Item). met a (get_or roots r None)) aside-so ∙ sym (row_fits_root image v hs roots r) in
-        let z_is : z ≡ root_after image (proof_of n ts hs) roots r = ze ∙ ap (λ (a : Option Item). renew a (get_or roots r None)) aside-so ∙ sym (row_root_after image v hs roots r) in
+        let aside_so = aside_is v w.rising low k part here higher he ge merged me parents aside next' e bound room in
+        let met_is : m ≡ fits_root image (proof_of n ts hs) roots r = ml ∙ ap (λ (a : Option Item). met a (get_or roots r None)) aside_so ∙ sym (row_fits_root image v hs roots r) in
+        let z_is : z ≡ root_after image (proof_of n ts hs) roots r = ze ∙ ap (λ (a : Option Item). renew a (get_or roots r None)) aside_so ∙ sym (row_root_after image v hs roots r) in
         let row_is : merged ≡ map (entry image (proof_of n ts hs) r) (full n ts r) = me ∙ merged_is v w.rising low k part here higher he ge in
         let high = w.tall in
         record {
           rising = up;
           fitting_is = se ∙ ap (λ (x : Bool). x && m) w.fitting_is ∙ ap (λ (x : Bool). not (any (λ j. not (fits_root image (proof_of n ts hs) roots j)) (below r)) && x) met_is
               ∙ sym (fits_more image v hs roots r) ∙ ap (λ x. not (any (λ j. not (fits_root image (proof_of n ts hs) roots j)) (below x))) (sym one);
-          size = length-set roots-now r z ∙ w.size;
-          roots_are = write_more (root_after image (proof_of n ts hs) roots) roots roots-now r None z (omega arith) w.roots_are z_is
+          size = length-set roots_now r z ∙ w.size;
+          roots_are = write_more (root_after image (proof_of n ts hs) roots) roots roots_now r None z (omega arith) w.roots_are z_is
               ∙ ap (λ x. map (root_after image (proof_of n ts hs) roots) (below x) ++ drop x roots) (sym one);
           tall = ap length te ∙ length-set table r merged ∙ w.tall;
           told = λ j less. tell j (cases_eq j r) less row_is high;
@@ -169,11 +169,11 @@ module _ {image : Image} {n : ℕ} {ts : List Target} {hs : List Value} where
             ∙ ap (λ x. map (entry image (proof_of n ts hs) x) (full n ts x)) (sym q)
         tell j (inr q) less row_is high = ap (λ (l : List (List Item)). get_or l j []) te ∙ get_or-set_other table r j merged [] q ∙ w.told j (omega arith)
 
-    pub standing_all : (v : Valid n ts) → length roots ≡ 32 → {r : ℕ} {items : List Item} {left : List Spend} {next : ℕ} {fitting : Bool} {roots-now : List (Option Value)} {table : List (List Item)}
-        → Standing image n ts hs roots r items left next fitting roots-now table → r ≡ 32 → Done image n ts hs roots next fitting roots-now table
-    standing_all v whole {r} {items} {left} {next} {fitting} {roots-now} {table} w e = last (subst (λ (x : ℕ). Standing image n ts hs roots x items left next fitting roots-now table) e w)
+    pub standing_all : (v : Valid n ts) → length roots ≡ 32 → {r : ℕ} {items : List Item} {left : List Spend} {next : ℕ} {fitting : Bool} {roots_now : List (Option Value)} {table : List (List Item)}
+        → Standing image n ts hs roots r items left next fitting roots_now table → r ≡ 32 → Done image n ts hs roots next fitting roots_now table
+    standing_all v whole {r} {items} {left} {next} {fitting} {roots_now} {table} w e = last (subst (λ (x : ℕ). Standing image n ts hs roots x items left next fitting roots_now table) e w)
       where
-        last : Standing image n ts hs roots 32 items left next fitting roots-now table → Done image n ts hs roots next fitting roots-now table
+        last : Standing image n ts hs roots 32 items left next fitting roots_now table → Done image n ts hs roots next fitting roots_now table
         last s =
             record {
               all_used = s.rising.next_is ∙ used_all v hs;

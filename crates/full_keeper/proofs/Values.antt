@@ -29,7 +29,7 @@ module _ (image : Image) where
       let p : ℕ = i / 2 ^ j in
       let here = indexed (length s) R j p top h in
       let there = indexed (length s) R r o top g in
-      let in-t = index_in R j p here.0 here.1 in
+      let in_table = index_in R j p here.0 here.1 in
       ⊎_elim
       (λ (same : index R r o ≡ index R j p).
       let q = index_once R r o there.0 j p here.0 there.1 here.1 same in

@@ -88,7 +88,7 @@ module _ (image : Image) (s : Slots) (small : length s < 2 ^ 32) (w : ℕ) (c : 
           ap (λ (x : Option Node). (elim x as (λ _. Bool) [ None ↦ true | Some e ↦ not (is_some (coin_at image s e)) ]) || false) number_located
           ∙ ap (λ x. not (is_some x) || false) number_coin
 
-  module _ (image-fits : ImageFits image) (slots-fit : SlotsFit s) (room : length s ≤ most_slots) (ws : List ℕ) where
+  module _ (image_fits : ImageFits image) (slots_fit : SlotsFit s) (room : length s ≤ most_slots) (ws : List ℕ) where
     abbrev view : View
     view = view_of image s ws
 
@@ -97,14 +97,14 @@ module _ (image : Image) (s : Slots) (small : length s < 2 ^ 32) (w : ℕ) (c : 
 
     -- any wallet of these slots takes it as a block
     block_taken : refusal (take_causes image view bs) ≡ None
-    block_taken = taken image s image-fits slots-fit (card_number ∷ []) [] (card_free room) ws
+    block_taken = taken image s image_fits slots_fit (card_number ∷ []) [] (card_free room) ws
 
     pub card_taken : refusal (take_causes image view (card_of (length s) held)) ≡ None
     card_taken = ap (λ b. refusal (take_causes image view b)) card_composed ∙ block_taken
 
     -- it is within the limits, and has the counts of a card
     fits : Fitting block
-    fits = fitting image s image-fits slots-fit (card_number ∷ []) [] (card_free room)
+    fits = fitting image s image_fits slots_fit (card_number ∷ []) [] (card_free room)
 
     is_card : (eqb (spent_count bs) 1 && eqb (coin_count bs) 0) ≡ true
     is_card =

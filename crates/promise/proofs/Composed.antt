@@ -173,8 +173,8 @@ module _ (b : Block) where
 
     -- new coins that fit are read back too
     pub read_back : AllByRecursion CoinFits b.coins → entries (composed b) ≡ b
-    read_back coins-fit = read_most ∙ ap (λ z. record { targets = b.targets; spent = b.spent; hashes = b.hashes; coins = z })
-        (unpacked coin_bytes 32 (λ c. refl) coin_in CoinFits coin_back no_coin b.coins coins-fit
+    read_back coins_fit = read_most ∙ ap (λ z. record { targets = b.targets; spent = b.spent; hashes = b.hashes; coins = z })
+        (unpacked coin_bytes 32 (λ c. refl) coin_in CoinFits coin_back no_coin b.coins coins_fit
         (composed b) (((head ++ at_targets) ++ at_spent) ++ at_hashes) []
         (6 + 40 * length b.spent + 32 * length b.hashes) (length b.coins) cut4 long4 refl)
 

@@ -78,9 +78,9 @@ card_granted image s slot c h out live here room =
 take_written : (image : Image) → ImageFits image → (s : Slots) → SlotsFit s → (ws : List ℕ) (w : Wallet) → w.view ≡ view_of image s ws
     → (ps : List ℕ) (cs : List Coin) (out wrote : Bytes) → write image s ps cs out ≡ granted wrote
     → (wallet_step image (take_block (composed (block_for image s ps cs))) w).answer ≡ granted []
-take_written image fit s slots-fit ws w e ps cs out wrote g =
+take_written image fit s slots_fit ws w e ps cs out wrote g =
     let ok = (output_granted (write_causes image s ps cs) (composed (block_for image s ps cs)) out wrote g).0 in
-    let t = taken image s fit slots-fit ps cs ok ws in
+    let t = taken image s fit slots_fit ps cs ok ws in
     let bs = composed (block_for image s ps cs) in
     when_none (refusal (take_causes image w.view bs)) (wallet_after image bs w) w
     (ap (λ v. refusal (take_causes image v bs)) e ∙ t)
@@ -102,9 +102,9 @@ bridge_takes image fit capacity fed octets ps cs out wrote g room =
 
 -- what a bridge writes, over the bytes that it was lent, is read as the block that was asked for
 pub bridge_writes : BridgeWrites CoinFits
-bridge_writes image fit capacity fed octets ps cs out wrote g coins-fit =
+bridge_writes image fit capacity fed octets ps cs out wrote g coins_fit =
     let (ok, made) = output_granted (write_causes image s ps cs) (composed (block_for image s ps cs)) out wrote g in
-    (made, written_read image s fit (bridge_fits image capacity fed octets) ps cs ok coins-fit)
+    (made, written_read image s fit (bridge_fits image capacity fed octets) ps cs ok coins_fit)
   where
     s : Slots
     s = (bridge_run image capacity fed).state.slots

@@ -45,19 +45,19 @@ paired_fits None b f g = tt
 paired_fits (Some a) None f g = tt
 paired_fits (Some a) (Some b) f g = (f, g)
 
-module _ (image : Image) (image-fits : ImageFits image) where
+module _ (image : Image) (image_fits : ImageFits image) where
   -- the image of what fits fits
   image_of_fits : (x : Option Input) → MaybeInputFits x → MaybeValueFits (image_of image x)
   image_of_fits None f = tt
-  image_of_fits (Some i) f = image-fits i f
+  image_of_fits (Some i) f = image_fits i f
 
-  module _ (s : Slots) (slots-fit : SlotsFit s) where
+  module _ (s : Slots) (slots_fit : SlotsFit s) where
     coin_fits : (d : Node) (c : Coin) → coin_at image s d ≡ Some c → CoinFits c
     coin_fits d c e = go (slot_at image s d) e
       where
         go : (x : Option ℕ) → ◌≡◌ {A = Option Coin} (elim x [ None ↦ None | Some w ↦ get_or s w None ]) (Some c) → CoinFits c
         go None q = let z : ◌≡◌ {A = ℕ} 0 1 = cc in absurd (omega arith)
-        go (Some w) q = slots-fit w c q
+        go (Some w) q = slots_fit w c q
 
     -- the own input at each position fits
     own_fits : (r o : ℕ) → MaybeInputFits (own_input image s r o)

@@ -52,7 +52,7 @@ bridge_take_causes_with image capacity s bs b =
     ∷ cause 17 (not (same_values b.hashes (fresh image s (targets_of (length s) b))))
     ∷ cause 18 (ltb capacity (length s + length b.coins)) ∷ []))
 
-module _ (image : Image) (s : Slots) (image-fits : ImageFits image) (slots-fit : SlotsFit s) (ps : List ℕ) (cs : List Coin)
+module _ (image : Image) (s : Slots) (image_fits : ImageFits image) (slots_fit : SlotsFit s) (ps : List ℕ) (cs : List Coin)
     (ok : refusal (write_causes image s ps cs) ≡ None) where
   -- the block, and its bytes
   abbrev block : Block
@@ -119,7 +119,7 @@ module _ (image : Image) (s : Slots) (image-fits : ImageFits image) (slots-fit :
     spent_fit = All-map CoinFits (coin_of image s) ps
         (all_mem (λ p. CoinFits (coin_of image s p)) ps (λ p m. coin_ok p (mem_all (LiveNamed image s) ps p live m)));
     hashes_fit = All-map ValueFits (fresh_value image s) (needed (length s) ts)
-        (all_mem (λ p. ValueFits (fresh_value image s p)) (needed (length s) ts) (λ p m. fresh_fits image image-fits s slots-fit p));
+        (all_mem (λ p. ValueFits (fresh_value image s p)) (needed (length s) ts) (λ p m. fresh_fits image image_fits s slots_fit p));
   }
     where
       e : length (coins_at image s ps) ≡ length ps
@@ -137,7 +137,7 @@ module _ (image : Image) (s : Slots) (image-fits : ImageFits image) (slots-fit :
       coin_ok : (p : ℕ) → LiveNamed image s p → CoinFits (coin_of image s p)
       coin_ok p n =
           let (w, z) = coin_is image s write_small n.node.row n.node.place n.coin n.has_coin in
-          subst CoinFits (sym (coin_named image s p n)) (slots-fit w n.coin z.live)
+          subst CoinFits (sym (coin_named image s p n)) (slots_fit w n.coin z.live)
 
   -- the block as it is read: all but the new coins, of which there are as many
   abbrev as_read : Block
@@ -177,4 +177,4 @@ module _ (image : Image) (s : Slots) (image-fits : ImageFits image) (slots-fit :
 
   -- it is read as the block that was asked for
   pub written_read : AllByRecursion CoinFits cs → entries bs ≡ block
-  written_read coins-fit = read_back block fitting coins-fit
+  written_read coins_fit = read_back block fitting coins_fit

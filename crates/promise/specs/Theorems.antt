@@ -52,14 +52,14 @@ BlocksStep causes = (image : Image) (s : Slots) → length s < 2 ^ 32 → (watch
 -- the card of a live slot of a bridge with the same standing blocks is taken as a block; and it is watched, unless its position is
 -- on the shelf, while fewer than `places` coins are
 abbrev pub CardsWatched : ℕ → Type 0
-CardsWatched places-on-shelf = (image : Image) → ImageFits image → (places : ℕ) (calls : List Call) → Agreed image places calls →
+CardsWatched places_on_shelf = (image : Image) → ImageFits image → (places : ℕ) (calls : List Call) → Agreed image places calls →
     (capacity : ℕ) (fed : List BridgeCall) → AllByRecursion GivenOctets fed →
     (standing (map as_call fed) (bridge_run image capacity fed).answers [] ≡ standing calls (wallet_run image places calls).answers []) →
     let w = (wallet_run image places calls).state in
     let s = (bridge_run image capacity fed).state.slots in
     (slot : ℕ) (h : Held) → held_at image s slot ≡ h ∷ [] →
     ((wallet_step image (take_block (card_of (length s) h)) w).answer ≡ granted [])
-    × (on_shelf w.view.count w.view.shelf (position_of (length s) h) ≡ false → length w.view.shelf < places-on-shelf →
+    × (on_shelf w.view.count w.view.shelf (position_of (length s) h) ≡ false → length w.view.shelf < places_on_shelf →
     (wallet_step image (watch (card_of (length s) h)) w).answer ≡ granted [])
 
 -- a bridge takes each block that it writes, where it has the capacity

@@ -112,8 +112,8 @@ module _ (image : Image) (places : ℕ) where
   -- the same of every agreed run and every bridge with the same standing blocks, where the image is known to be so, and each call to
   -- the bridge
   abbrev pub ServedWhere : Type 0 → (BridgeCall → Type 0) → Type 0
-  ServedWhere Image-so Call-so = Image-so → (calls : List Call) → Agreed image places calls →
-      (capacity : ℕ) (fed : List BridgeCall) → AllByRecursion Call-so fed →
+  ServedWhere ImageSo CallSo = ImageSo → (calls : List Call) → Agreed image places calls →
+      (capacity : ℕ) (fed : List BridgeCall) → AllByRecursion CallSo fed →
       (standing (map as_call fed) (bridge_run image capacity fed).answers [] ≡ standing calls (wallet_run image places calls).answers []) →
       ServesAt calls capacity fed
 

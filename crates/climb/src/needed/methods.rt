@@ -1,7 +1,7 @@
 // Finding the needed positions. A climb that works no value out finds the rows.
 ghost use Rattle.std.specs.Prelude.{◌≡◌, ◌+◌, ◌<◌, ◌≤◌, [], ◌∷◌, ◌++◌, map, length};
 ghost use Rattle.place.specs.Nodes.{node_of};
-ghost use Rattle.utreexo.specs.Claims.{needed as needed-positions};
+ghost use Rattle.utreexo.specs.Claims.{needed as needed_positions};
 ghost use Rattle.utreexo.specs.Forest.{at_node};
 ghost use Rattle.targets.specs.Targets.{placed};
 ghost use Rattle.climb.specs.Rows.{sib, lones};
@@ -65,7 +65,7 @@ impl Needed {
 
     // The needed positions of targets: those whose sibling is covered, and which are not covered themselves.
     pub fn of(targets: &Targets) -> Needed
-        ensures { numbered targets.now.count (nodes_of result) ≡ needed-positions targets.now.count (placed targets.now) }
+        ensures { numbered targets.now.count (nodes_of result) ≡ needed_positions targets.now.count (placed targets.now) }
     {
         let count = targets.count();
         let mut needed = Needed::empty();

@@ -17,12 +17,12 @@ loop-row-preserved g c =
     let image = g.C.Compression.image in
     let t = c.args.targets.now in
     let small : t.count < 2 ^ 32 = omega arith in
-    let merged-so : held c.merge_row-merged.result ≡ merge left_of (held c.loop-row.carried) (spents image c.split_at.result.0.now) =
+    let merged_so : held c.merge_row-merged.result ≡ merge left_of (held c.loop-row.carried) (spents image c.split_at.result.0.now) =
     c.merge_row-merged.ensures ∙ ap (λ (l : List Item). merge left_of l (spents image c.split_at.result.0.now)) c.as_slice.ensures in
     let size = ap length c.as_slice-in-loop-row.ensures in
     standing_more (valid_is t.count (placed t) small t.valid) c.loop-row.invariant c.loop-row-test.true c.told-roots
     c.count_row.result c.count_row.ensures c.split_at.result.0.now c.split_at.result.1.now c.split_at.ensures.front c.split_at.ensures.back
-    (held c.merge_row-merged.result) merged-so (held c.step_row-raised.result.parents) c.step_row-raised.result.aside c.step_row-raised.result.next
+    (held c.merge_row-merged.result) merged_so (held c.step_row-raised.result.parents) c.step_row-raised.result.aside c.step_row-raised.result.next
     (c.step_row-raised.ensures.made
     ∙ ap (step image (hashes_in c.args.hashes.now) (c.count-count.result / 2 ^ c.loop-row.row) c.loop-row.next None) c.as_slice-in-loop-row.ensures
     ∙ ap (λ n. step image (hashes_in c.args.hashes.now) (n / 2 ^ c.loop-row.row) c.loop-row.next None (held c.merge_row-merged.result)) c.count-count.ensures)

@@ -23,18 +23,18 @@ loop-row-preserved c =
     let here = c.split_at.result.0.now in
     let higher = c.split_at.result.1.now in
     let merged : List Item = c.as_slice-items.result.now in
-    let merged-so : merged ≡ merge left_of (held c.loop-row.carried) (spents image here) =
+    let merged_so : merged ≡ merge left_of (held c.loop-row.carried) (spents image here) =
     c.as_slice-items.ensures ∙ c.merge_row-merged.ensures ∙ ap (λ (l : List Item). merge left_of l (spents image here)) c.as_slice.ensures in
     let low = merged_low valid up c.loop-row-test.true c.count_row.result c.count_row.ensures here higher c.split_at.ensures.front c.split_at.ensures.back in
-    let size = ap length merged-so in
-    let Made-so = c.step_row-raised.ensures.made ∙ ap (λ n. step image [] (n / 2 ^ row) c.loop-row.next None merged) c.count-count.ensures in
-    let nodes-so = c.push_siblings.ensures ∙ ap (λ n. nodes_of c.loop-row.needed ++ map (at_node row) (lones (n / 2 ^ row) (places merged))) c.count-count.ensures in (
+    let size = ap length merged_so in
+    let made_so = c.step_row-raised.ensures.made ∙ ap (λ n. step image [] (n / 2 ^ row) c.loop-row.next None merged) c.count-count.ensures in
+    let nodes_so = c.push_siblings.ensures ∙ ap (λ n. nodes_of c.loop-row.needed ++ map (at_node row) (lones (n / 2 ^ row) (places merged))) c.count-count.ensures in (
       rising_more valid up c.loop-row-test.true c.count_row.result c.count_row.ensures here higher c.split_at.ensures.front c.split_at.ensures.back
-          merged merged-so (held c.step_row-raised.result.parents) c.step_row-raised.result.aside c.step_row-raised.result.next Made-so
+          merged merged_so (held c.step_row-raised.result.parents) c.step_row-raised.result.aside c.step_row-raised.result.next made_so
           c.step_row-raised.ensures.count c.step_row-raised.ensures.room,
       lacked_more c.loop-row.invariant.1 image (proof_of t.count (placed t) []) merged
-          (merged-so ∙ merged_is valid up c.loop-row-test.true c.count_row.result c.count_row.ensures here higher c.split_at.ensures.front c.split_at.ensures.back)
-          (omega arith) _ nodes-so,
+          (merged_so ∙ merged_is valid up c.loop-row-test.true c.count_row.result c.count_row.ensures here higher c.split_at.ensures.front c.split_at.ensures.back)
+          (omega arith) _ nodes_so,
     )
 
 pub returns : goal.returns
