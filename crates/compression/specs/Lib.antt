@@ -1,2 +1,2 @@
 pub mod Tagged
-pub mod TallyCompressionLemmas
+pub mod TallyOctets

@@ -5,7 +5,7 @@ ghost use Rattle.utreexo.specs.Tally.{leaf_byte, pair_byte, tally};
 ghost use Rattle.utreexo.specs.declared.types.Input.TheVariants.{Leaf, Pair};
 ghost use Rattle.utreexo.specs.Bytes.{coin_bytes, value_bytes};
 ghost use Rattle.utreexo.proofs.Fitting.{value_in_fits};
-ghost use Rattle.compression.specs.TallyCompressionLemmas.{leaf_octets, pair_octets};
+ghost use Rattle.compression.specs.TallyOctets.{leaf_octets, pair_octets};
 
 use crate::Compression;
 use utreexo::types::{Coin, Value};

@@ -1,3 +1,4 @@
+-- The bytes of an image under Tally are below 256. These lemmas stand here and not in proofs/ since the law of an `impl` cites them.
 use Rattle.std.specs.Prelude.{ℕ, List, [], ◌∷◌, map}
 use Rattle.std.proofs.Common.{arith}
 use Rattle.std.specs.Simd.Lanes.{zip2}
