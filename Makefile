@@ -5,9 +5,7 @@ TASKS ?=
 .PHONY: run test
 
 run:
-	@mkdir -p target
-	@rt check yisturan > target/run.log 2>&1 || { cat target/run.log; exit 1; }
-	@target/bin/yisturan $(TASKS)
+	@cd crates/yisturan && mkdir -p out && rt run -- $(TASKS) 2> out/run.log || { cat out/run.log >&2; exit 1; }
 
 test:
 	@.ci/run

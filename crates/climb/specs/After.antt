@@ -16,11 +16,11 @@ abbrev pub left_at : Option Item → Option (Option Value)
 left_at None = None
 left_at (Some x) = Some x.left
 
--- the after_value of place o of row r; none where it is not covered
+-- the after-value of place o of row r; none where it is not covered
 abbrev pub look : AfterValues → ℕ → ℕ → Option (Option Value)
 look t r o = left_at (lookup (slice_index_or (row_lists t) r []) o)
 
--- the table has the after_value of each covered place of the forest, and of no other place of it
+-- the table has the after-value of each covered place of the forest, and of no other place of it
 abbrev pub Tells : Image → Proof → AfterValues → Type 0
 Tells image p t =
     (r o : ℕ) → o < p.count / 2 ^ r → look t r o ≡ cond (covered p.targets (at_node r o)) (Some (after image (claim_at p r o))) None

@@ -95,7 +95,7 @@ pub(crate) fn meets_root(aside: Option<Item>, root: Option<Value>) -> bool
     }
 }
 
-// What the stored root of a row becomes: the after_value, if its place is covered.
+// What the stored root of a row becomes: the after-value, if its place is covered.
 pub(crate) fn root_after(aside: Option<Item>, root: Option<Value>) -> Option<Value>
     ensures { result ≡ renew aside root }
 {

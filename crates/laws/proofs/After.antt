@@ -1,4 +1,4 @@
--- The after_value at a root is the value of the tree with the targets' slots blanked.
+-- The after-value at a root is the value of the tree with the targets' slots blanked.
 use Rattle.std.proofs.Common.{◌≡◌, ℕ, zero, suc, ◌+◌, ◌*◌, Bool, true, false, cond, ◌||◌, is_some, Some, None, Option, sym, refl, ap, ◌∙◌, arith}
 use Rattle.laws.proofs.Place.{up}
 use Rattle.laws.proofs.Places.{half_even, half_odd, mod_even, mod_odd}
@@ -51,7 +51,7 @@ module _ {C V : Type 0} (image : Preimage C V → V) where
       rw (value_grow slot r (2 * o), value_grow slot r (2 * o + 1)) (sym (value_merge (grow slot r (2 * o)) (grow slot r (2 * o + 1))))
 
 module _ {C V : Type 0} (image : Preimage C V → V) (dead : ℕ → Bool) where
-  -- what a claim's after_value is, by the claim's kind
+  -- what a claim's after-value is, by the claim's kind
   pub after_target : (c : C) (u : Tree C) → Matches image (target c) u → ((i : ℕ) (x : C) → u ≡ coin i x → dead i ≡ true)
       → None ≡ map_o (value image) (prune dead u)
   after_target c (coin i x) m s = rw (s i x refl)
@@ -126,7 +126,7 @@ module _ {C V : Type 0} (image : Preimage C V → V) (slot : ℕ → Option C) (
         clear r (suc d) (2 * o + 1) y (omega arith) (rw half_odd q) (rw (mod_odd, half_odd, s)) b,
       )
 
-  -- at each position whose claim matches, the after_value is the value with the spent slots blanked
+  -- at each position whose claim matches, the after-value is the value with the spent slots blanked
   pub after_matches : (r d o : ℕ) (u : Tree C) → d + r ≡ k → up d o ≡ p → subtree t d o ≡ Some u → Matches image (claim tgt hash r o) u
       → after_value image (claim tgt hash r o) ≡ map_o (value image) (prune (spent_by slot tgt k) u)
   after_matches zero d o u n q s m =

@@ -144,7 +144,7 @@ module _ (p : Proof) where
           ≡ as_claim (cond (covers L || covers K) (node L K) (by_hash (p.hash (suc r) o)))) (sym b) (two (covers L || covers K) l k)
 
 module _ (image : Image) where
-  -- and so are the value claimed, the input claimed and the after_value
+  -- and so are the value claimed, the input claimed and the after-value
   pub claimed_asserted : (a : Assertion Coin Value) → claimed image (as_claim a) ≡ asserted (img image) a
   claimed_asserted (target c) = refl
   claimed_asserted (by_hash v) = refl

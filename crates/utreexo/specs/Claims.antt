@@ -88,7 +88,7 @@ module _ (image : Image) where
   claimed_input (given v) = None
   claimed_input (both l r) = Some (Pair (claimed l) (claimed r))
 
-  -- the after_value, once the targets are spent: a target's is absent, a hash stays, others join their children
+  -- the after-value, once the targets are spent: a target's is absent, a hash stays, others join their children
   abbrev pub after : Claim → Option Value
   after (spent c) = None
   after (given v) = Some v
@@ -113,6 +113,6 @@ module _ (image : Image) (p : Proof) where
   abbrev pub fits : List (Option Value) → Bool
   fits roots = not (any (λ k. not (fits_root roots k)) (below 32))
 
-  -- a root once the targets are spent: the after_value where covered
+  -- a root once the targets are spent: the after-value where covered
   abbrev pub root_after : List (Option Value) → ℕ → Option Value
   root_after roots k = cond (root_covered k) (after image (root_claim k)) (slice_index_or roots k None)

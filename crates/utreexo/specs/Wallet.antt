@@ -40,7 +40,7 @@ on_shelf n shelf p = any (λ h. nat_eq (position_of n h) p) shelf
 abbrev pub leaves_shelf : List Target → Held → Bool
 leaves_shelf ts h = covered ts (at_node h.row h.place) || any (λ t. beneath (at_node h.row h.place) t.node) ts
 
--- the path of place o of row r: a hash whose position is covered becomes the after_value there
+-- the path of place o of row r: a hash whose position is covered becomes the after-value there
 abbrev pub renewed : Image → Proof → ℕ → ℕ → List Value → List (Option Value)
 renewed image p r o [] = []
 renewed image p r o (v ∷ vs) =
@@ -49,7 +49,7 @@ renewed image p r o (v ∷ vs) =
 abbrev pub moved : Held → Struck → Held
 moved h k = record { coin = h.coin; row = h.row + k.row; place = k.place; path = k.path }
 
--- where an after_value is absent, the hash and its bit are struck out
+-- where an after-value is absent, the hash and its bit are struck out
 abbrev pub refreshed : Image → Proof → Held → Held
 refreshed image p h = moved h (strike (renewed image p h.row h.place h.path) h.place)
 

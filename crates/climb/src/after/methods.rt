@@ -38,7 +38,7 @@ impl AfterValues {
         self.rows[row as usize] = items;
     }
 
-    // The after_value of a covered place; None where the place is not covered.
+    // The after-value of a covered place; None where the place is not covered.
     pub fn at(&self, row: u8, place: u32) -> Option<Option<Value>>
         ensures { result ≡ look self.now row place }
     {
