@@ -5,7 +5,7 @@ ghost use Rattle.utreexo.specs.Checks.{over, compose_causes, compose as composin
 ghost use Rattle.block.specs.Compose.{numbers, block_of, Few};
 ghost use Rattle.utreexo.specs.Outcomes.{Judged, answered, Writes};
 
-use crate::packed::{Count, pack_all, *};
+use crate::packed::*;
 use refusal::Refusal;
 use utreexo::types::{Coin, Position, Value};
 

@@ -1,5 +1,5 @@
 -- One row's step up, and the fold over the rows: what the code computes, on lists.
-use Rattle.std.specs.Prelude.{ℕ, zero, suc, ◌+◌, ◌-◌, ◌*◌, ◌/◌, ◌%◌, ◌^◌, Bool, true, false, cond, ◌&&◌, ltb, List, [], ◌∷◌, ◌++◌, map, length, Some, None, Option, ◌==◌, nat_lt, slice_index_or}
+use Rattle.std.specs.Prelude.{ℕ, zero, suc, ◌+◌, ◌-◌, ◌*◌, ◌/◌, ◌%◌, ◌^◌, Bool, true, false, cond, ◌&&◌, List, [], ◌∷◌, ◌++◌, map, length, Some, None, Option, ◌==◌, nat_lt, slice_index_or}
 use Rattle.utreexo.specs.declared.types.Value.{Value}
 use Rattle.climb.specs.declared.item.Item.{Item}
 use Rattle.utreexo.specs.declared.types.Input.TheVariants.{Leaf, Pair}
@@ -60,7 +60,7 @@ spot t = t.node.place
 -- the covered places of row r, of the forest of n slots
 abbrev pub full : ℕ → List Target → ℕ → List ℕ
 full n ts zero = map spot (front 0 ts)
-full n ts (suc r) = merge ltb (ups (n / 2 ^ r) (full n ts r)) (map spot (front (suc r) (pasts (suc r) ts)))
+full n ts (suc r) = merge nat_lt (ups (n / 2 ^ r) (full n ts r)) (map spot (front (suc r) (pasts (suc r) ts)))
 
 -- the places that come from the row below
 abbrev pub carried : ℕ → List Target → ℕ → List ℕ

@@ -6,15 +6,18 @@ use Rattle.utreexo.specs.Blocks.{spent_count, hash_count, coin_count}
 use Rattle.utreexo.specs.Checks.{refusal, read_causes}
 use Rattle.laws.proofs.Causes.{free}
 
+-- the length that the counts tell
 abbrev pub whole_length : Bytes → ℕ
 whole_length b = 6 + 40 * spent_count b + 32 * hash_count b + 32 * coin_count b
 
+-- the counts of bytes that read
 pub record Reads (b : Bytes) : Type 0 where
   pub spent_few : spent_count b ≤ 32
   pub hashes_few : hash_count b ≤ 992
   pub coins_few : coin_count b ≤ 32
   pub whole : length b ≡ whole_length b
 
+-- bytes that read have such counts
 pub reads : (b : Bytes) → refusal (read_causes b) ≡ None → Reads b
 reads b e =
     let p = free (read_causes b) e in

@@ -1,6 +1,6 @@
 -- What a list of slots says of itself: its live slots' records, own inputs, fresh proofs, a block's step on it, cards, written
 -- blocks and the challenge. Register and bridge both answer by these.
-use Rattle.std.specs.Prelude.{ℕ, zero, suc, ◌+◌, ◌-◌, ◌*◌, ◌^◌, Bool, true, false, cond, not, ◌&&◌, ◌||◌, List, [], ◌∷◌, ◌++◌, map, reverse, length, get_or, is_some, Some, None, Option, nat_lt, slice_index_or}
+use Rattle.std.specs.Prelude.{ℕ, zero, suc, ◌+◌, ◌-◌, ◌*◌, ◌^◌, Bool, true, false, cond, not, ◌&&◌, ◌||◌, List, [], ◌∷◌, ◌++◌, map, reverse, length, is_some, Some, None, Option, nat_lt, slice_index_or}
 use Rattle.utreexo.specs.declared.types.Coin.{Coin}
 use Rattle.utreexo.specs.declared.types.Value.{Value}
 use Rattle.utreexo.specs.declared.types.Input.{Input}
@@ -43,7 +43,7 @@ abbrev pub slot_at : Image → Slots → Node → Option ℕ
 slot_at image s e = first (slot_has image s e) (below (length s))
 
 abbrev pub coin_at : Image → Slots → Node → Option Coin
-coin_at image s e = elim (slot_at image s e) [ None ↦ None | Some w ↦ get_or s w None ]
+coin_at image s e = elim (slot_at image s e) [ None ↦ None | Some w ↦ slice_index_or s w None ]
 
 -- Own inputs and fresh proofs -------------------------------------------------------------
 
