@@ -3,9 +3,9 @@
 
 usage: python3 tools/rename_definitions.py [ROOT]
 
-definition_names.txt, beside this file, has a line 'old new' for each name. A name is replaced where it stands whole: in the .antt, .rt
-and .edit files below ROOT/crates, but not in a string. It is for one run, after the toolchain's own script has turned the rest: a new
-name may be another's old one.
+definition_names.txt, beside this file, has a line 'old new' for each name that the toolchain's own script leaves. A name is replaced
+where it stands whole: in the .antt, .rt and .edit files below ROOT/crates, in a .rt file not in a string. It is for one run, after that
+script: a new name may be another's old one.
 """
 import os
 import re
@@ -13,7 +13,7 @@ import sys
 
 WORD = re.compile(r"""[A-Za-z_][A-Za-z0-9_']*(?:-[A-Za-z0-9_']+)*""")
 STRING = re.compile(r'"(?:[^"\\]|\\.)*"')
-PART = re.compile(r"[^\W]", re.UNICODE)
+PART = re.compile(r"\w")
 
 
 def table():
@@ -24,11 +24,10 @@ def table():
 
 def renamed(text, names):
     def word(m):
-        before, after = text_at[m.start() - 1 : m.start()], text_at[m.end() : m.end() + 1]
+        before, after = text[m.start() - 1 : m.start()], text[m.end() : m.end() + 1]
         whole = not (PART.match(before) or before == "-" or PART.match(after) or after in ("-", "'"))
         return names.get(m.group(), m.group()) if whole else m.group()
 
-    text_at = text
     return WORD.sub(word, text)
 
 
