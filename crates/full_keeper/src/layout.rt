@@ -7,7 +7,7 @@ use keeper::run::leaf_value;
 use utreexo::types::{Coin, Value};
 
 // Where the value over a run stands, with `rows` rows above the slots.
-pub fn index_of(rows: u8, row: u8, place: usize) -> usize
+pub(crate) fn index_of(rows: u8, row: u8, place: usize) -> usize
     requires { (rows ≤ 32) × ((row ≤ rows) × (place < 2 ^ 33)) }
     ensures { result ≡ index rows row place }
 {
@@ -15,7 +15,7 @@ pub fn index_of(rows: u8, row: u8, place: usize) -> usize
 }
 
 // Works out the value over each run that holds the slot, from below, up to the first row where that run passes the count.
-pub fn update_path<C: Compression>(
+pub(crate) fn update_path<C: Compression>(
     table: &mut [Option<Value>],
     rows: u8,
     coins: &[Option<Coin>],

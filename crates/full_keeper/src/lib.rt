@@ -6,7 +6,7 @@ mod relay;
 
 ghost use Rattle.std.specs.Prelude.{◌≡◌, ℕ, ◌+◌, ◌^◌, ◌<◌, ◌≤◌, [], length, IfOk, vec_len, vec_capacity, slice_set};
 ghost use Rattle.full_keeper.specs.Table.{Least, AtPositions};
-ghost use Rattle.std.proofs.Common.{rules, arith};
+ghost use Rattle.std.proofs.Common.{rules};
 
 use crate::layout::*;
 use crate::relay::*;
@@ -79,9 +79,9 @@ impl<C: Compression> Keeper<C> for Full<C> {
 
     ghost sound = { λ m. AtPositions C.Compression.image m.coins.items m.table.items };
 
-    ghost fits = { first_of (Prim.search rules, Prim.grind (arith, Self.row.coded.inj)) };
+    ghost fits = { Prim.search rules };
 
-    ghost small = { first_of (Prim.search rules, Prim.grind (arith, Self.row.coded.inj)) };
+    ghost small = { Prim.search rules };
 
     fn count(&self) -> u32 {
         self.coins.len() as u32

@@ -48,7 +48,7 @@ fn lower(table: &mut [Option<Value>], rows: u8, count: usize)
 }
 
 // Lays the table of `count` slots for one more, and gives the new R.
-pub fn grow(table: &mut [Option<Value>], rows: u8, count: usize) -> u8
+pub(crate) fn grow(table: &mut [Option<Value>], rows: u8, count: usize) -> u8
     requires few { count < 2 ^ 32 }
     requires least { Least count rows }
     requires room { (k : ℕ) → Least (count + 1) k → 2 ^ (k + 1) ≤ length table.old }
@@ -63,7 +63,7 @@ pub fn grow(table: &mut [Option<Value>], rows: u8, count: usize) -> u8
 }
 
 // Lays the table of one slot more for `count`, and gives the new R.
-pub fn shrink(table: &mut [Option<Value>], rows: u8, count: usize) -> u8
+pub(crate) fn shrink(table: &mut [Option<Value>], rows: u8, count: usize) -> u8
     requires few { count < 2 ^ 32 }
     requires least { Least (count + 1) rows }
     requires room { 2 ^ (rows + 1) ≤ length table.old }

@@ -1,7 +1,7 @@
 // The bare keeper: it keeps the coins, and works values out when asked.
 ghost use Rattle.std.specs.Prelude.{◌≡◌, ℕ, ◌/◌, ◌^◌, ◌<◌, ◌≤◌, [], length, IfOk, vec_len, vec_capacity};
 ghost use Rattle.utreexo.specs.Forest.{value_over};
-ghost use Rattle.std.proofs.Common.{rules, arith};
+ghost use Rattle.std.proofs.Common.{rules};
 
 use crate::Keeper;
 use crate::run::*;
@@ -55,9 +55,9 @@ impl<C: Compression> Keeper<C> for Bare<C> {
 
     ghost sound = { λ _. Unit {0} };
 
-    ghost fits = { first_of (Prim.search rules, Prim.grind (arith, Self.row.coded.inj)) };
+    ghost fits = { Prim.search rules };
 
-    ghost small = { first_of (Prim.search rules, Prim.grind (arith, Self.row.coded.inj)) };
+    ghost small = { Prim.search rules };
 
     fn count(&self) -> u32 {
         self.coins.len() as u32
