@@ -3,18 +3,17 @@
 
 ghost use Rattle.std.specs.Prelude.{◌≡◌, Decides, nat_eq};
 ghost use Rattle.std.specs.Ordering.{on};
+ghost use Rattle.refusal.specs.declared.Refusal.{Refusal};
 ghost use Rattle.refusal.specs.Numbers.{number};
-ghost use Rattle.std.specs.Cmp.Rules.{comparing};
-ghost use Rattle.std.proofs.Common.{rules};
 
 use std::fmt;
 
 // A call does its work or gives one of these, and a refusal leaves everything as it was.
 // The order is that of the numbers, which is also the order in which a call looks for them.
-#[derive(Clone, Copy, Debug)]
+#[derive(Clone, Copy, PartialEq, Eq, Debug)]
 pub enum Refusal {
     // the block has under 6 bytes, so its three counts cannot be read
-    BlockTooShort,
+    BlockTooShort = 1,
     // a count is over its limit, or a message for BLAKE2s has over 128 bytes
     OverLimit,
     // the block's length is not the one that its counts ask for
@@ -58,27 +57,7 @@ impl Refusal {
     pub fn number(&self) -> u8
         ensures { result ≡ number self.now }
     {
-        match self {
-            Refusal::BlockTooShort => 1,
-            Refusal::OverLimit => 2,
-            Refusal::WrongLength => 3,
-            Refusal::TargetsNotAscending => 4,
-            Refusal::NotACard => 5,
-            Refusal::TargetOutsideForest => 6,
-            Refusal::TargetAboveAnother => 7,
-            Refusal::WrongHashCount => 8,
-            Refusal::BlankRoot => 9,
-            Refusal::ProofDoesNotFit => 10,
-            Refusal::TooManySlots => 11,
-            Refusal::AlreadyOnShelf => 12,
-            Refusal::ShelfFull => 13,
-            Refusal::NoMark => 14,
-            Refusal::NotOnShelf => 15,
-            Refusal::NotFound => 16,
-            Refusal::HashNotFresh => 17,
-            Refusal::OverCapacity => 18,
-            Refusal::OutputTooShort => 19,
-        }
+        *self as u8
     }
 
     // The cause in a sentence, for the person at the terminal.
@@ -116,23 +95,12 @@ impl fmt::Display for Refusal {
     }
 }
 
-// Written out and not derived, so that a caller's proof learns what the answer says.
-impl PartialEq for Refusal {
-    ghost eq = { on number nat_eq };
-
-    ghost laws = { Prim.search (comparing, rules) };
-
-    fn eq(&self, other: &Refusal) -> bool
-        ensures answer { result ≡ on number nat_eq self.now other.now }
-        ensures decides { Decides result (self.now ≡ other.now) }
-    {
-        self.number() == other.number()
-    }
-}
-
-impl Eq for Refusal {
-    ghost laws = { Prim.search (comparing, rules) };
-}
+// A refusal's number tells it apart, and the derived `==` compares numbers. The function does nothing: its contract is that law.
+pub fn equal_by_number()
+    ensures answer { (a b : Refusal) → ⟦<Refusal as PartialEq>⟧.eq a b ≡ on number nat_eq a b }
+    ensures decides { (a b : Refusal) → Decides (⟦<Refusal as PartialEq>⟧.eq a b) (a ≡ b) }
+    ensures one_number { (a b : Refusal) → number a ≡ number b → a ≡ b }
+{}
 
 #[cfg(test)]
 mod tests {

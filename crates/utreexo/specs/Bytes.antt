@@ -2,6 +2,7 @@
 use Rattle.std.specs.Prelude.{ℕ, zero, suc, ◌+◌, ◌*◌, ◌/◌, ◌%◌, ◌<◌, List, [], ◌∷◌, ◌++◌, take, drop}
 use Rattle.std.specs.List.{AllByRecursion}
 use Rattle.utreexo.specs.declared.types.Coin.{Coin}
+use Rattle.utreexo.specs.declared.types.Position.{Position}
 use Rattle.utreexo.specs.declared.types.Value.{Value}
 
 abbrev pub Bytes : Type 0
@@ -24,6 +25,13 @@ number_in (b ∷ bs) = b + 256 * number_in bs
 abbrev pub number_bytes : ℕ → ℕ → Bytes
 number_bytes zero n = []
 number_bytes (suc k) n = n % 256 ∷ number_bytes k (n / 256)
+
+-- A position is 8 bytes.
+abbrev pub position_in : Bytes → Position
+position_in bs = record { number = number_in bs }
+
+abbrev pub position_bytes : Position → Bytes
+position_bytes p = number_bytes 8 p.number
 
 -- A coin and a value are 32 bytes each: four words of 8 bytes.
 abbrev pub coin_in : Bytes → Coin

@@ -1,14 +1,19 @@
 // A coin as bytes.
-ghost use Rattle.std.specs.Prelude.{◌≡◌};
 ghost use Rattle.utreexo.specs.Bytes.{coin_in, coin_bytes};
+ghost use Rattle.std.proofs.Common.{rules};
 
+use crate::record::Record;
 use crate::types::Coin;
 use crate::words::{read_word, write_words};
 
-impl Coin {
-    pub fn from_bytes(bytes: &[u8; 32]) -> Coin
-        ensures { result ≡ coin_in bytes.now }
-    {
+impl Record<32> for Coin {
+    ghost packed = { coin_bytes };
+
+    ghost decoded = { coin_in };
+
+    ghost sized = { Prim.search rules };
+
+    fn from_bytes(bytes: &[u8; 32]) -> Coin {
         Coin {
             w0: read_word(bytes, 0),
             w1: read_word(bytes, 8),
@@ -17,9 +22,7 @@ impl Coin {
         }
     }
 
-    pub fn to_bytes(&self) -> [u8; 32]
-        ensures { result ≡ coin_bytes self.now }
-    {
+    fn to_bytes(&self) -> [u8; 32] {
         write_words(self.w0, self.w1, self.w2, self.w3)
     }
 }

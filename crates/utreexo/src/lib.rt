@@ -3,6 +3,7 @@
 #![tactic(auto)]
 
 mod coin;
+pub mod record;
 #[cfg(test)]
 mod tests;
 pub mod types;

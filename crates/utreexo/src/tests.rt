@@ -1,4 +1,5 @@
 // Bytes in, bytes out: what was read is written again.
+use crate::record::*;
 use crate::types::*;
 
 const BYTES: [u8; 32] = [

@@ -1,6 +1,6 @@
 // The records of the forest.
 // A coin: 32 bytes, as four words with the lowest byte first.
-#[derive(Clone, Copy, PartialEq, Eq, Debug)]
+#[derive(Clone, Copy, PartialEq, Eq, Default, Debug)]
 pub struct Coin {
     pub w0: u64,
     pub w1: u64,
@@ -9,7 +9,7 @@ pub struct Coin {
 }
 
 // A value: the image of an input, 32 bytes in the same form. It is a type of its own, so that no coin is taken for a value.
-#[derive(Clone, Copy, PartialEq, Eq, Debug)]
+#[derive(Clone, Copy, PartialEq, Eq, Default, Debug)]
 pub struct Value {
     pub w0: u64,
     pub w1: u64,
@@ -31,7 +31,7 @@ pub struct Slot {
 }
 
 // The number of a place in the forest, which is no slot number: only the position rule leads from one to the other.
-#[derive(Clone, Copy, PartialEq, Eq, Debug)]
+#[derive(Clone, Copy, PartialEq, Eq, Default, Debug)]
 pub struct Position {
     pub number: u64,
 }

@@ -1,14 +1,19 @@
 // A value as bytes.
-ghost use Rattle.std.specs.Prelude.{◌≡◌};
 ghost use Rattle.utreexo.specs.Bytes.{value_in, value_bytes};
+ghost use Rattle.std.proofs.Common.{rules};
 
+use crate::record::Record;
 use crate::types::Value;
 use crate::words::{read_word, write_words};
 
-impl Value {
-    pub fn from_bytes(bytes: &[u8; 32]) -> Value
-        ensures { result ≡ value_in bytes.now }
-    {
+impl Record<32> for Value {
+    ghost packed = { value_bytes };
+
+    ghost decoded = { value_in };
+
+    ghost sized = { Prim.search rules };
+
+    fn from_bytes(bytes: &[u8; 32]) -> Value {
         Value {
             w0: read_word(bytes, 0),
             w1: read_word(bytes, 8),
@@ -17,9 +22,7 @@ impl Value {
         }
     }
 
-    pub fn to_bytes(&self) -> [u8; 32]
-        ensures { result ≡ value_bytes self.now }
-    {
+    fn to_bytes(&self) -> [u8; 32] {
         write_words(self.w0, self.w1, self.w2, self.w3)
     }
 }
