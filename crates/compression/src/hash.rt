@@ -6,6 +6,7 @@ ghost use Rattle.utreexo.specs.declared.types.Input.TheVariants.{Leaf, Pair};
 ghost use Rattle.utreexo.proofs.Fitting.{value_in_fits};
 
 use crate::Compression;
+use utreexo::record::Record;
 use utreexo::types::{Coin, Value};
 
 pub struct Blake2s;
@@ -32,18 +33,14 @@ fn pair_message(left: &[u8; 32], right: &[u8; 32]) -> [u8; 65]
 impl Compression for Blake2s {
     const NUMBER: u8 = 1;
 
-    ghost image = { tagged_blake2s };
+    ghost NUMBER = { 1 };
 
-    ghost assigned = { 1 };
+    ghost image = { tagged_blake2s };
 
     ghost fits = { elim [
       | Leaf c ↦ λ f. value_in_fits _ (digest_octets _)
       | Pair l r ↦ λ f. value_in_fits _ (digest_octets _)
     ] };
-
-    fn assigned_number() -> u8 {
-        Self::NUMBER
-    }
 
     fn leaf(coin: Coin) -> Value {
         Value::from_bytes(&blake2s::digest_33(&leaf_message(&coin.to_bytes())))

@@ -16,17 +16,13 @@ use utreexo::types::{Coin, Value};
 
 // A compression has no value of its own: its functions stand alone, and whoever uses one names its type.
 pub trait Compression {
-    // The number by which a script or a file names the compression.
+    // The number by which a script or a file names the compression; each implementation's clause and constant are tied.
     const NUMBER: u8;
+
+    ghost NUMBER: { ℕ };
 
     // The written meaning: the image of each input.
     ghost image: { Input → Value };
-
-    // A clause cannot name the constant, so this stands for it, and `assigned_number` ties the two.
-    ghost assigned: { ℕ };
-
-    fn assigned_number() -> u8
-        ensures { result ≡ assigned };
 
     fn leaf(coin: Coin) -> Value
         ensures { result ≡ image (Leaf coin) };

@@ -8,6 +8,7 @@ ghost use Rattle.utreexo.proofs.Fitting.{value_in_fits};
 ghost use Rattle.compression.specs.TallyOctets.{leaf_octets, pair_octets};
 
 use crate::Compression;
+use utreexo::record::Record;
 use utreexo::types::{Coin, Value};
 
 pub struct Tally;
@@ -30,26 +31,22 @@ fn add_one_to_each(bytes: &mut [u8; 32])
 fn mix_into(left: &mut [u8; 32], right: &[u8; 32])
     ensures { left.new ≡ zip2 pair_byte left.old right.now }
 {
-    for i in 0..32 {
-        left[i] = mix_byte(left[i], right[i]);
+    for (i, byte) in left.iter_mut().enumerate() {
+        *byte = mix_byte(*byte, right[i]);
     }
 }
 
 impl Compression for Tally {
     const NUMBER: u8 = 2;
 
-    ghost image = { tally };
+    ghost NUMBER = { 2 };
 
-    ghost assigned = { 2 };
+    ghost image = { tally };
 
     ghost fits = { elim [
       | Leaf c ↦ λ f. value_in_fits (map leaf_byte (coin_bytes c)) (leaf_octets (coin_bytes c))
       | Pair l r ↦ λ f. value_in_fits (zip2 pair_byte (value_bytes l) (value_bytes r)) (pair_octets (value_bytes l) (value_bytes r))
     ] };
-
-    fn assigned_number() -> u8 {
-        Self::NUMBER
-    }
 
     fn leaf(coin: Coin) -> Value {
         let mut bytes = coin.to_bytes();

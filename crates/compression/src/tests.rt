@@ -2,6 +2,7 @@
 use crate::hash::*;
 use crate::tally::*;
 use crate::{Compression, join};
+use utreexo::record::*;
 use utreexo::types::*;
 
 const LEAF: [u8; 32] = [

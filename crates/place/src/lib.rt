@@ -11,7 +11,7 @@ ghost use Rattle.place.specs.Nodes.{node_of, node_in, number_of, inside, is_root
 use utreexo::types::{Position, Slot};
 
 // A row, and a place in it: it spans the slots place * 2^row to (place + 1) * 2^row - 1.
-#[derive(Clone, Copy, PartialEq, Eq, Debug)]
+#[derive(Clone, Copy, PartialEq, Eq, Default, Debug)]
 pub struct Node {
     pub row: u8,
     pub place: u32,
@@ -166,7 +166,8 @@ pub fn parent(count: u32, node: Node) -> Option<Node>
     })
 }
 
-fn sibling_place(place: u32) -> u32
+// The other of the two places that have one parent; of any place, in the forest or not.
+pub fn sibling_place(place: u32) -> u32
     ensures { result ≡ sibling place }
 {
     if place % 2 == 0 { place + 1 } else { place - 1 }
@@ -189,9 +190,7 @@ pub fn sibling(count: u32, node: Node) -> Option<Node>
 pub fn root_position(count: u32, node: Node) -> Option<Position>
     ensures { number_of result ≡ root_position count (node_of node) }
 {
-    let Some(row) = tree_row(count, node) else {
-        return None;
-    };
+    let row = tree_row(count, node)?;
     let root = Node {
         row,
         place: tree_place(count, row),

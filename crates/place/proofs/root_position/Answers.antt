@@ -3,10 +3,7 @@ use Rattle.utreexo.specs.Forest.{position}
 use Rattle.place.specs.Nodes.{tree_position}
 use Rattle.place.proofs.root_position.Goals as goal
 
-pub returns-in_default : goal.returns-in_default
-returns-in_default c = ap (tree_position c.args.count) c.in_default.ensures.value
-
 pub returns : goal.returns
 returns c =
-    ap (λ p. Some p) (c.number.ensures ∙ ap (position c.args.count c.in-Some.row) c.tree_place.ensures)
-    ∙ ap (tree_position c.args.count) c.in-Some.ensures.value
+    ap (λ p. Some p) (c.number.ensures ∙ ap (position c.args.count c.in_ok-row.row) c.tree_place.ensures)
+    ∙ ap (tree_position c.args.count) c.in_ok-row.ensures.value
