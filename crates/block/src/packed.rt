@@ -5,6 +5,7 @@ ghost use Rattle.utreexo.specs.Blocks.{concat};
 ghost use Rattle.block.specs.Compose.{placed};
 ghost use Rattle.std.proofs.Common.{rules};
 
+use utreexo::record::Record;
 use utreexo::types::{Coin, Position, Value};
 
 pub(crate) trait Packed: Copy {

@@ -8,6 +8,7 @@ ghost use Rattle.climb.specs.Held.{hashes_in};
 use crate::item::Item;
 use compression::{Compression, join};
 use targets::spend::Spend;
+use utreexo::record::Record;
 use utreexo::types::Value;
 
 // The item above two siblings.

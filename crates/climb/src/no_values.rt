@@ -24,15 +24,11 @@ impl Compression for NoValues {
     // no script names it
     const NUMBER: u8 = 0;
 
+    ghost NUMBER = { 0 };
+
     ghost image = { λ _. no_value };
 
-    ghost assigned = { 0 };
-
     ghost fits = { Prim.search rules };
-
-    fn assigned_number() -> u8 {
-        Self::NUMBER
-    }
 
     fn leaf(_coin: Coin) -> Value {
         zero()

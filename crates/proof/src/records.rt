@@ -4,6 +4,7 @@ ghost use Rattle.utreexo.specs.Bytes.{part, coin_in};
 ghost use Rattle.utreexo.specs.Lists.{below};
 ghost use Rattle.proof.specs.Read.{position_in};
 
+use utreexo::record::Record as _;
 use utreexo::types::{Coin, Position};
 
 pub(crate) trait Record: Copy {

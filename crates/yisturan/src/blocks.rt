@@ -4,6 +4,7 @@ use crate::arguments::{Argument, only_bytes};
 use crate::fault::*;
 use block::{compose, read};
 use std::alloc::Global;
+use utreexo::record::Record as _;
 use utreexo::types::{Coin, Position, Value};
 
 // Output buffers are filled with this byte before a call, so that a reader sees what was left alone.

@@ -4,6 +4,7 @@ use compression::hash::*;
 use compression::tally::*;
 use compression::{Compression, join};
 use std::fmt;
+use utreexo::record::*;
 use utreexo::types::*;
 
 #[derive(Clone, Copy)]
@@ -37,7 +38,7 @@ fn write_digest<W: fmt::Write>(f: &mut fmt::Formatter<W>, message: &[u8]) -> fmt
 }
 
 fn write_root<C: Compression, W: fmt::Write>(f: &mut fmt::Formatter<W>, name: &str) -> fmt::Result {
-    let number = C::assigned_number();
+    let number = C::NUMBER;
     writeln!(
         f,
         "Under compression {number}, {name}, the coins 1, 2, 3 and 4 have the root"
