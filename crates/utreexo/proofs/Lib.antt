@@ -1,3 +1,1 @@
-mod Reading
 pub mod Fitting
-pub mod Writing
