@@ -6,7 +6,7 @@ ghost use Rattle.utreexo.specs.Checks.{push as pushed};
 ghost use Rattle.history.specs.Stack.{room, stack, newest_of, older, Next};
 
 // Which places of the slice hold marks: the newest mark is at `newest`, the older ones before it, and from the last place on after the
-// first.
+// first. Slice and ring stay apart, and no deque is used: who holds the marks lends them, and nothing is allocated.
 #[derive(Clone, Copy, PartialEq, Eq, Debug)]
 pub struct Ring {
     newest: usize,

@@ -35,9 +35,6 @@ slot_inside n i small = inside_exactly n 0 i small ∙ ap (λ x. ltb i x) (div-o
 xor_zero : (a b : ℕ) → bit_xor a b ≡ 0 → a ≡ b
 xor_zero a b e = omega (arith, xor_add_and a b, and_le_l a b, and_le_r a b)
 
-pub xor_some : (a b : ℕ) → a < b → 0 < bit_xor a b
-xor_some a b h = elim (cases_lt 0 (bit_xor a b)) [ inl g ↦ g | inr z ↦ absurd (let e = xor_zero a b (omega arith) in omega arith) ]
-
 -- at the highest bit j in which o < m differ, o has 0 and m has 1
 record Parts (o m j : ℕ) : Type 0 where
   zero_bit : o / 2 ^ j ≡ 2 * (m / 2 ^ (j + 1))

@@ -1,4 +1,5 @@
-// Rows, places and positions of a forest, from the count alone.
+// Rows, places and positions of a forest, from the count alone. The count stays a parameter beside each node: it is a number that callers
+// hold, and a struct of the two, or one around the count, would be made anew at every call.
 #![tactic(auto)]
 
 #[cfg(test)]
@@ -35,8 +36,9 @@ fn highest_bit(x: u64) -> u8
     (63 - x.leading_zeros()) as u8
 }
 
-// The number of whole runs of 2^row slots. A u32 is shifted by 31 at most.
-fn runs(count: u32, row: u8) -> u32
+// The number of whole runs of 2^row slots among so many; so, too, the place that lies so many rows above a place. A u32 is shifted by
+// 31 at most.
+pub fn runs(count: u32, row: u8) -> u32
     ensures value { result ≡ count / 2 ^ row }
     ensures low { 0 < result → row < 32 }
 {

@@ -1,4 +1,4 @@
-use Rattle.std.proofs.Common.{sym, refl, arith, pow_pos}
+use Rattle.std.proofs.Common.{sym, refl, arith}
 use Rattle.place.proofs.Powers.{double_shl}
 use Rattle.place.proofs.Numbers.{Counted, counted, counted_numbered, found, not_found, past_end}
 use Rattle.place.proofs.locate.Goals as goal
@@ -7,9 +7,6 @@ deep : (c : goal.After-highest_bit-depth) → Counted c.rows-rows.result c.args.
 deep c =
     counted c.rows-rows.result c.args.position.number c.highest_bit-depth.result c.rows-rows.ensures.low c.if-position-end.false
     c.highest_bit-depth.ensures.high_bound c.highest_bit-depth.ensures.low_bound
-
-pub overflow_sub-end : goal.overflow_sub-end
-overflow_sub-end c = omega (arith, double_shl c.rows-rows.result c.rows-rows.ensures.low, pow_pos c.rows-rows.result)
 
 pub returns-then-position-end : goal.returns-then-position-end
 returns-then-position-end c =
@@ -22,12 +19,6 @@ returns-then-position-end c =
 
 pub overflow_sub-found : goal.overflow_sub-found
 overflow_sub-found c = (deep c).row
-
-pub overflow_sub-found-2 : goal.overflow_sub-found-2
-overflow_sub-found-2 c = let k = deep c in omega (arith, pow_pos c.highest_bit-depth.result)
-
-pub overflow_sub-found-3 : goal.overflow_sub-found-3
-overflow_sub-found-3 c = let k = deep c in omega arith
 
 pub overflow_cast-found-2 : goal.overflow_cast-found-2
 overflow_cast-found-2 c = let k = deep c in omega arith

@@ -1,14 +1,11 @@
 use Rattle.std.proofs.Common.{◌+◌, sym, arith}
-use Rattle.place.proofs.Trees.{outside, xor_some, tree_found, tree_range}
+use Rattle.place.proofs.Trees.{outside, tree_found, tree_range}
 use Rattle.place.proofs.tree_row.Goals as goal
 
 pub returns-then-node-runs : goal.returns-then-node-runs
 returns-then-node-runs c =
     let e = c.runs-runs.ensures.value in
     record { value = sym (outside c.args.count c.args.node.row c.args.node.place (omega arith) (omega arith)); range = tt }
-
-pub highest_bit-requires : goal.highest_bit-requires
-highest_bit-requires c = xor_some _ _ c.if-node-runs.false
 
 pub returns : goal.returns
 returns c =
