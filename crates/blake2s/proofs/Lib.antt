@@ -1,3 +1,4 @@
 mod Mixing
 mod Blocks
+mod Arrays
 pub mod Octets

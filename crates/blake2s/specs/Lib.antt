@@ -1,3 +1,2 @@
 pub mod Blake2s
-pub mod Lists
 pub mod Examples

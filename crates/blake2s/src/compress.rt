@@ -1,13 +1,27 @@
 // The compression of one block.
 //
-// LLVM leaves a round out of line where one function is called ten times. So each round is an instance of its own, by the
-// const parameter ROUND, and each caller of `compress` has its own copy, by COPY: an instance that is called once is compiled
-// in place, and a caller with a message of fixed length gets a copy in which the padding and the length are constants.
-ghost use Rattle.std.specs.Prelude.{◌≡◌, ◌+◌, ◌%◌, ◌^◌, if◌then◌else◌};
-ghost use Rattle.blake2s.specs.Blake2s.{mix, round, rounds, SIGMA, F};
-ghost use Rattle.blake2s.specs.Lists.{sixteen, eight};
+// LLVM compiles a large function in place only where it is called once. So the functions that have the rounds take the const
+// parameters N and PART, and each call of `compress` is one of an instance of its own: a message of fixed length N gets a copy
+// in which the padding and the length are constants.
+ghost use Rattle.std.specs.Prelude.{◌≡◌, ◌+◌, ◌%◌, ◌^◌, if◌then◌else◌, nat_lt, IsTrue};
+ghost use Rattle.std.specs.List.{list_all};
+ghost use Rattle.blake2s.specs.Blake2s.{mix, round, rounds, in_order, SIGMA, F};
 
-use crate::words::{State, Words};
+use std::array;
+
+// The order of the message's words in each round.
+const ORDERS: [[usize; 16]; 10] = [
+    [0, 1, 2, 3, 4, 5, 6, 7, 8, 9, 10, 11, 12, 13, 14, 15],
+    [14, 10, 4, 8, 9, 15, 13, 6, 1, 12, 0, 2, 11, 7, 5, 3],
+    [11, 8, 12, 0, 5, 2, 15, 13, 10, 14, 3, 6, 7, 1, 9, 4],
+    [7, 9, 3, 1, 13, 12, 11, 14, 2, 6, 5, 10, 4, 0, 15, 8],
+    [9, 0, 5, 7, 2, 4, 10, 15, 14, 1, 11, 12, 6, 8, 3, 13],
+    [2, 12, 6, 10, 0, 11, 8, 3, 4, 13, 7, 5, 15, 14, 1, 9],
+    [12, 5, 1, 15, 14, 13, 4, 10, 0, 7, 6, 3, 9, 2, 8, 11],
+    [13, 11, 7, 14, 12, 1, 3, 9, 5, 0, 15, 4, 8, 6, 2, 10],
+    [6, 15, 14, 9, 11, 3, 0, 8, 12, 2, 13, 7, 1, 4, 10, 5],
+    [10, 2, 8, 4, 7, 6, 1, 5, 15, 11, 9, 14, 3, 12, 13, 0],
+];
 
 fn add_three(a: u32, b: u32, x: u32) -> u32
     ensures { result ≡ (a + b + x) % 2 ^ 32 }
@@ -30,88 +44,65 @@ fn mix_four(a: u32, b: u32, c: u32, d: u32, x: u32, y: u32) -> (u32, u32, u32, u
     (a, b, c, d)
 }
 
+// The words of the message m in the order s.
+#[inline(always)]
+fn in_order(m: &[u32; 16], s: &[usize; 16]) -> [u32; 16]
+    requires { IsTrue (list_all (λ k. nat_lt k 16) s.now) }
+    ensures { result ≡ in_order s.now m.now }
+{
+    array::from_fn(|i| m[s[i]])
+}
+
 // One round: the columns, then the diagonals. The words of m stand in the order of the round.
-fn mix_round<const COPY: usize, const ROUND: usize>(v: Words, m: Words) -> Words
-    ensures { sixteen result ≡ round (sixteen m) (sixteen v) }
+#[inline(always)]
+fn mix_round(v: [u32; 16], m: [u32; 16]) -> [u32; 16]
+    ensures { result ≡ round m v }
 {
-    let (a0, b0, c0, d0) = mix_four(v.w0, v.w4, v.w8, v.w12, m.w0, m.w1);
-    let (a1, b1, c1, d1) = mix_four(v.w1, v.w5, v.w9, v.w13, m.w2, m.w3);
-    let (a2, b2, c2, d2) = mix_four(v.w2, v.w6, v.w10, v.w14, m.w4, m.w5);
-    let (a3, b3, c3, d3) = mix_four(v.w3, v.w7, v.w11, v.w15, m.w6, m.w7);
-    let (w0, w5, w10, w15) = mix_four(a0, b1, c2, d3, m.w8, m.w9);
-    let (w1, w6, w11, w12) = mix_four(a1, b2, c3, d0, m.w10, m.w11);
-    let (w2, w7, w8, w13) = mix_four(a2, b3, c0, d1, m.w12, m.w13);
-    let (w3, w4, w9, w14) = mix_four(a3, b0, c1, d2, m.w14, m.w15);
-    Words {
-        w0,
-        w1,
-        w2,
-        w3,
-        w4,
-        w5,
-        w6,
-        w7,
-        w8,
-        w9,
-        w10,
-        w11,
-        w12,
-        w13,
-        w14,
-        w15,
-    }
+    let [
+        v0,
+        v1,
+        v2,
+        v3,
+        v4,
+        v5,
+        v6,
+        v7,
+        v8,
+        v9,
+        v10,
+        v11,
+        v12,
+        v13,
+        v14,
+        v15,
+    ] = v;
+    let (a0, b0, c0, d0) = mix_four(v0, v4, v8, v12, m[0], m[1]);
+    let (a1, b1, c1, d1) = mix_four(v1, v5, v9, v13, m[2], m[3]);
+    let (a2, b2, c2, d2) = mix_four(v2, v6, v10, v14, m[4], m[5]);
+    let (a3, b3, c3, d3) = mix_four(v3, v7, v11, v15, m[6], m[7]);
+    let (v0, v5, v10, v15) = mix_four(a0, b1, c2, d3, m[8], m[9]);
+    let (v1, v6, v11, v12) = mix_four(a1, b2, c3, d0, m[10], m[11]);
+    let (v2, v7, v8, v13) = mix_four(a2, b3, c0, d1, m[12], m[13]);
+    let (v3, v4, v9, v14) = mix_four(a3, b0, c1, d2, m[14], m[15]);
+    [
+        v0, v1, v2, v3, v4, v5, v6, v7, v8, v9, v10, v11, v12, v13, v14, v15,
+    ]
 }
 
-// The words of a block in the order that is written out.
-macro_rules! in_order {
-    ($from:ident, $a:ident $b:ident $c:ident $d:ident $e:ident $f:ident $g:ident $h:ident $i:ident $j:ident $k:ident $l:ident $m:ident $n:ident $o:ident $p:ident) => {
-        Words { w0: $from.$a, w1: $from.$b, w2: $from.$c, w3: $from.$d, w4: $from.$e, w5: $from.$f, w6: $from.$g, w7: $from.$h, w8: $from.$i, w9: $from.$j, w10: $from.$k, w11: $from.$l, w12: $from.$m, w13: $from.$n, w14: $from.$o, w15: $from.$p }
-    };
-}
-
-fn mix_rounds<const COPY: usize>(v: Words, m: Words) -> Words
-    ensures { sixteen result ≡ rounds SIGMA (sixteen m) (sixteen v) }
+// The ten rounds. As a loop over ORDERS they take 53 % more instructions (tried): the words' indices are then no constants.
+fn mix_rounds<const N: usize, const PART: usize>(v: [u32; 16], m: &[u32; 16]) -> [u32; 16]
+    ensures { result ≡ rounds SIGMA m.now v }
 {
-    let v = mix_round::<COPY, 0>(
-        v,
-        in_order!(m, w0 w1 w2 w3 w4 w5 w6 w7 w8 w9 w10 w11 w12 w13 w14 w15),
-    );
-    let v = mix_round::<COPY, 1>(
-        v,
-        in_order!(m, w14 w10 w4 w8 w9 w15 w13 w6 w1 w12 w0 w2 w11 w7 w5 w3),
-    );
-    let v = mix_round::<COPY, 2>(
-        v,
-        in_order!(m, w11 w8 w12 w0 w5 w2 w15 w13 w10 w14 w3 w6 w7 w1 w9 w4),
-    );
-    let v = mix_round::<COPY, 3>(
-        v,
-        in_order!(m, w7 w9 w3 w1 w13 w12 w11 w14 w2 w6 w5 w10 w4 w0 w15 w8),
-    );
-    let v = mix_round::<COPY, 4>(
-        v,
-        in_order!(m, w9 w0 w5 w7 w2 w4 w10 w15 w14 w1 w11 w12 w6 w8 w3 w13),
-    );
-    let v = mix_round::<COPY, 5>(
-        v,
-        in_order!(m, w2 w12 w6 w10 w0 w11 w8 w3 w4 w13 w7 w5 w15 w14 w1 w9),
-    );
-    let v = mix_round::<COPY, 6>(
-        v,
-        in_order!(m, w12 w5 w1 w15 w14 w13 w4 w10 w0 w7 w6 w3 w9 w2 w8 w11),
-    );
-    let v = mix_round::<COPY, 7>(
-        v,
-        in_order!(m, w13 w11 w7 w14 w12 w1 w3 w9 w5 w0 w15 w4 w8 w6 w2 w10),
-    );
-    let v = mix_round::<COPY, 8>(
-        v,
-        in_order!(m, w6 w15 w14 w9 w11 w3 w0 w8 w12 w2 w13 w7 w1 w4 w10 w5),
-    );
-    mix_round::<COPY, 9>(
-        v,
-        in_order!(m, w10 w2 w8 w4 w7 w6 w1 w5 w15 w11 w9 w14 w3 w12 w13 w0),
-    )
+    let v = mix_round(v, in_order(m, &ORDERS[0]));
+    let v = mix_round(v, in_order(m, &ORDERS[1]));
+    let v = mix_round(v, in_order(m, &ORDERS[2]));
+    let v = mix_round(v, in_order(m, &ORDERS[3]));
+    let v = mix_round(v, in_order(m, &ORDERS[4]));
+    let v = mix_round(v, in_order(m, &ORDERS[5]));
+    let v = mix_round(v, in_order(m, &ORDERS[6]));
+    let v = mix_round(v, in_order(m, &ORDERS[7]));
+    let v = mix_round(v, in_order(m, &ORDERS[8]));
+    mix_round(v, in_order(m, &ORDERS[9]))
 }
 
 // All bits are set in the last block, and none before it.
@@ -122,38 +113,35 @@ fn final_flag(last: bool) -> u32
 }
 
 // The state after the block m; t counts the message's bytes up to its end.
-pub(crate) fn compress<const COPY: usize>(h: State, m: Words, t: u64, last: bool) -> State
-    ensures { eight result ≡ F (eight h) (sixteen m) t last }
+pub(crate) fn compress<const N: usize, const PART: usize>(
+    h: [u32; 8],
+    m: &[u32; 16],
+    t: u64,
+    last: bool,
+) -> [u32; 8]
+    ensures { result ≡ F h m.now t last }
 {
     let low = (t % 0x1_0000_0000) as u32;
     let high = (t / 0x1_0000_0000) as u32;
-    let v = Words {
-        w0: h.h0,
-        w1: h.h1,
-        w2: h.h2,
-        w3: h.h3,
-        w4: h.h4,
-        w5: h.h5,
-        w6: h.h6,
-        w7: h.h7,
-        w8: 0x6a09e667,
-        w9: 0xbb67ae85,
-        w10: 0x3c6ef372,
-        w11: 0xa54ff53a,
-        w12: 0x510e527f ^ low,
-        w13: 0x9b05688c ^ high,
-        w14: 0x1f83d9ab ^ final_flag(last),
-        w15: 0x5be0cd19,
-    };
-    let v = mix_rounds::<COPY>(v, m);
-    State {
-        h0: h.h0 ^ v.w0 ^ v.w8,
-        h1: h.h1 ^ v.w1 ^ v.w9,
-        h2: h.h2 ^ v.w2 ^ v.w10,
-        h3: h.h3 ^ v.w3 ^ v.w11,
-        h4: h.h4 ^ v.w4 ^ v.w12,
-        h5: h.h5 ^ v.w5 ^ v.w13,
-        h6: h.h6 ^ v.w6 ^ v.w14,
-        h7: h.h7 ^ v.w7 ^ v.w15,
-    }
+    let [h0, h1, h2, h3, h4, h5, h6, h7] = h;
+    let v = [
+        h0,
+        h1,
+        h2,
+        h3,
+        h4,
+        h5,
+        h6,
+        h7,
+        0x6a09e667,
+        0xbb67ae85,
+        0x3c6ef372,
+        0xa54ff53a,
+        0x510e527f ^ low,
+        0x9b05688c ^ high,
+        0x1f83d9ab ^ final_flag(last),
+        0x5be0cd19,
+    ];
+    let v = mix_rounds::<N, PART>(v, m);
+    array::from_fn(|i| h[i] ^ v[i] ^ v[i + 8])
 }

@@ -6,57 +6,31 @@ mod compress;
 mod tests;
 mod words;
 
-ghost use Rattle.std.specs.Prelude.{◌≡◌, ◌<◌, ◌≤◌, [], length, codes};
-ghost use Rattle.blake2s.specs.Blake2s.{absorb, blake2s, answer};
+ghost use Rattle.std.specs.Prelude.{◌≡◌, ◌≤◌, [], length, codes};
+ghost use Rattle.blake2s.specs.Blake2s.{blake2s, answer};
 ghost use Rattle.blake2s.specs.Examples.{abc_digest, empty_digest};
-ghost use Rattle.blake2s.specs.Lists.{eight};
 
 use refusal::Refusal;
-use words::State;
 
 // The state before the first block: the initialization vector, with the parameters in its first word.
-const FIRST: State = State {
-    h0: 0x6b08e647,
-    h1: 0xbb67ae85,
-    h2: 0x3c6ef372,
-    h3: 0xa54ff53a,
-    h4: 0x510e527f,
-    h5: 0x9b05688c,
-    h6: 0x1f83d9ab,
-    h7: 0x5be0cd19,
-};
+const FIRST: [u32; 8] = [
+    0x6b08e647, 0xbb67ae85, 0x3c6ef372, 0xa54ff53a, 0x510e527f, 0x9b05688c, 0x1f83d9ab, 0x5be0cd19,
+];
 
-// The state after the last block, which has these bytes; t bytes went before it.
-fn last_block<const COPY: usize>(h: State, t: u64, bytes: &[u8]) -> State
-    requires { (length bytes.now ≤ 64) × (t ≤ 64) }
-    ensures { eight result ≡ absorb 0 (eight h) t bytes.now }
-{
-    compress::compress::<COPY>(
-        h,
-        words::read_block(&words::pad(bytes)),
-        t + bytes.len() as u64,
-        true,
-    )
-}
-
-fn one_block<const COPY: usize>(message: &[u8]) -> [u8; 32]
-    requires { length message.now ≤ 64 }
+// The digest of a message of N bytes, or with N = 0 of any message: the number of the copy that is compiled.
+fn hash<const N: usize>(message: &[u8]) -> [u8; 32]
+    requires { length message.now ≤ 128 }
     ensures { result ≡ blake2s message.now }
 {
-    words::write_state(last_block::<COPY>(FIRST, 0, message))
-}
-
-fn two_blocks<const COPY: usize, const LAST: usize>(message: &[u8]) -> [u8; 32]
-    requires { (64 < length message.now) × (length message.now ≤ 128) }
-    ensures { result ≡ blake2s message.now }
-{
-    match message.split_first_chunk::<64>() {
-        Some((front, rest)) => {
-            let h = compress::compress::<COPY>(FIRST, words::read_block(front), 64, false);
-            words::write_state(last_block::<LAST>(h, 64, rest))
+    let (h, last) = match message.split_first_chunk::<64>() {
+        Some((front, rest)) if !rest.is_empty() => {
+            let m = words::read_block(front);
+            (compress::compress::<N, 0>(FIRST, &m, 64, false), rest)
         }
-        None => unreachable(),
-    }
+        _ => (FIRST, message),
+    };
+    let m = words::read_block(&words::pad(last));
+    words::write_state(compress::compress::<N, 1>(h, &m, message.len() as u64, true))
 }
 
 // The digest of any message of at most 128 bytes; a longer one is refused.
@@ -66,25 +40,15 @@ pub fn digest(message: &[u8]) -> Result<[u8; 32], Refusal>
     if message.len() > 128 {
         return Err(Refusal::OverLimit);
     }
-    if message.len() <= 64 {
-        Ok(one_block::<0>(message))
-    } else {
-        Ok(two_blocks::<0, 0>(message))
-    }
+    Ok(hash::<0>(message))
 }
 
-// The digest of a message of 33 bytes, a tag and one record of 32: compiled for that length.
-pub fn digest_33(message: &[u8; 33]) -> [u8; 32]
+// The digest of a message of N bytes: compiled for that length.
+pub fn digest_of<const N: usize>(message: &[u8; N]) -> [u8; 32]
+    requires { N ≤ 128 }
     ensures { result ≡ blake2s message.now }
 {
-    one_block::<1>(message)
-}
-
-// The digest of a message of 65 bytes, a tag and two records of 32: compiled for that length.
-pub fn digest_65(message: &[u8; 65]) -> [u8; 32]
-    ensures { result ≡ blake2s message.now }
-{
-    two_blocks::<2, 3>(message)
+    hash::<N>(message)
 }
 
 // The definition itself gives the published digests.

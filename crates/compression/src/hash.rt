@@ -43,10 +43,10 @@ impl Compression for Blake2s {
     ] };
 
     fn leaf(coin: Coin) -> Value {
-        Value::from_bytes(&blake2s::digest_33(&leaf_message(&coin.to_bytes())))
+        Value::from_bytes(&blake2s::digest_of(&leaf_message(&coin.to_bytes())))
     }
 
     fn pair(left: Value, right: Value) -> Value {
-        Value::from_bytes(&blake2s::digest_65(&pair_message(&left.to_bytes(), &right.to_bytes())))
+        Value::from_bytes(&blake2s::digest_of(&pair_message(&left.to_bytes(), &right.to_bytes())))
     }
 }

@@ -5,4 +5,4 @@ use Rattle.compression.proofs.hash.Blake2sCompression.leaf.Goals as goal
 
 pub returns : goal.returns
 returns c =
-    c.from_bytes.ensures ∙ ap value_in (c.digest_33.ensures ∙ ap blake2s (c.leaf_message.ensures ∙ ap (λ bs. 0 ∷ bs) c.to_bytes.ensures))
+    c.from_bytes.ensures ∙ ap value_in (c.digest_of.ensures ∙ ap blake2s (c.leaf_message.ensures ∙ ap (λ bs. 0 ∷ bs) c.to_bytes.ensures))
