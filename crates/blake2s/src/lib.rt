@@ -10,27 +10,29 @@ ghost use Rattle.std.specs.Prelude.{◌≡◌, ◌≤◌, [], length, codes};
 ghost use Rattle.blake2s.specs.Blake2s.{blake2s, answer};
 ghost use Rattle.blake2s.specs.Examples.{abc_digest, empty_digest};
 
+use compress::compress;
 use refusal::Refusal;
+use words::{pad, read_block, write_state};
 
 // The state before the first block: the initialization vector, with the parameters in its first word.
 const FIRST: [u32; 8] = [
     0x6b08e647, 0xbb67ae85, 0x3c6ef372, 0xa54ff53a, 0x510e527f, 0x9b05688c, 0x1f83d9ab, 0x5be0cd19,
 ];
 
-// The digest of a message of N bytes, or with N = 0 of any message: the number of the copy that is compiled.
+// The digest of a message. The copy for N > 0 is for messages of N bytes, the one for 0 for any.
 fn hash<const N: usize>(message: &[u8]) -> [u8; 32]
     requires { length message.now ≤ 128 }
     ensures { result ≡ blake2s message.now }
 {
     let (h, last) = match message.split_first_chunk::<64>() {
         Some((front, rest)) if !rest.is_empty() => {
-            let m = words::read_block(front);
-            (compress::compress::<N, 0>(FIRST, &m, 64, false), rest)
+            let m = read_block(front);
+            (compress::<N, 0>(FIRST, &m, 64, false), rest)
         }
         _ => (FIRST, message),
     };
-    let m = words::read_block(&words::pad(last));
-    words::write_state(compress::compress::<N, 1>(h, &m, message.len() as u64, true))
+    let m = read_block(&pad(last));
+    write_state(compress::<N, 1>(h, &m, message.len() as u64, true))
 }
 
 // The digest of any message of at most 128 bytes; a longer one is refused.
@@ -43,7 +45,7 @@ pub fn digest(message: &[u8]) -> Result<[u8; 32], Refusal>
     Ok(hash::<0>(message))
 }
 
-// The digest of a message of N bytes: compiled for that length.
+// The digest of a message of N bytes, as a tag and one or two records of 32: compiled for that length.
 pub fn digest_of<const N: usize>(message: &[u8; N]) -> [u8; 32]
     requires { N ≤ 128 }
     ensures { result ≡ blake2s message.now }

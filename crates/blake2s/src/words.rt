@@ -1,23 +1,16 @@
 // The words of BLAKE2s, and how they are read from bytes and written to bytes.
-ghost use Rattle.std.specs.Prelude.{◌≡◌, ◌+◌, ◌≤◌, length};
+ghost use Rattle.std.specs.Prelude.{◌≡◌, ◌≤◌, length};
 ghost use Rattle.std.specs.List.{flat_map};
-ghost use Rattle.blake2s.specs.Blake2s.{word_at, word_bytes, block_words, padded};
+ghost use Rattle.blake2s.specs.Blake2s.{word_bytes, block_words, padded};
 
 use std::array;
-
-// The word that begins at byte i.
-fn word_at(bytes: &[u8; 64], i: usize) -> u32
-    requires { i + 4 ≤ 64 }
-    ensures { result ≡ word_at bytes.now i }
-{
-    u32::from_le_bytes([bytes[i], bytes[i + 1], bytes[i + 2], bytes[i + 3]])
-}
 
 // The sixteen words of a block.
 pub(crate) fn read_block(bytes: &[u8; 64]) -> [u32; 16]
     ensures { result ≡ block_words bytes.now }
 {
-    array::from_fn(|k| word_at(bytes, 4 * k))
+    let (words, _) = bytes.as_chunks::<4>();
+    array::from_fn(|k| u32::from_le_bytes(words[k]))
 }
 
 // A block of the bytes, and zeros after them.

@@ -9,5 +9,5 @@ pub returns : goal.returns
 returns g c =
     let h = c.args.h in
     let w = c.mix_rounds-v.result in
-    compressed h _ _ w _ c.args.t c.args.last (search rules) (search rules) (rw c.final_flag.ensures) c.mix_rounds-v.ensures
+    compressed h c.args.m.now _ w c.from_fn.result c.args.t c.args.last (search rules) (search rules) (rw c.final_flag.ensures) c.mix_rounds-v.ensures
     (made _ _ (λ i. bit_xor (bit_xor (at h i) (at w i)) (at w (i + 8))) (λ i r f' call. search rules) c.from_fn.result 8 c.from_fn.ensures.items)
