@@ -1,22 +1,26 @@
--- Ascending numbers: one seen, and none left.
-use Rattle.std.proofs.Common.{◌≡◌, ℕ, ◌+◌, ◌<◌, ◌≤◌, Bool, true, ◌&&◌, List, [], ◌∷◌, length, get_or, drop, Some, None, Option, sym, refl, ap, ◌∙◌}
-use Rattle.std.proofs.lemmas.List.{drop_more, drop_all}
+-- Positions ascend where each is below the next.
+use Rattle.std.proofs.Common.{◌≡◌, ℕ, zero, suc, ◌+◌, ◌<◌, true, false, ltb, List, [], ◌∷◌, length, get_or, refl, add-one, arith}
+use Rattle.std.proofs.lemmas.Bool.Decides.{nat_tests}
 use Rattle.utreexo.specs.declared.types.Position.{Position}
-use Rattle.block.specs.Ascending.{above, ascends_after}
+use Rattle.utreexo.specs.Blocks.{ascending}
 use Rattle.block.specs.Compose.{numbers}
 
--- the next number, and those after it
-one_seen : (o : Option ℕ) (x : ℕ) (xs : List ℕ) → ascends_after o (x ∷ xs) ≡ (above o x && ascends_after (Some x) xs)
-one_seen None x xs = refl
-one_seen (Some y) x xs = refl
+-- each is below the next
+pub all_below : (ps : List Position) → ((k : ℕ) (d : Position) → k + 1 < length ps → true ≡ ltb (get_or ps k d).number (get_or ps (k + 1) d).number)
+    → ascending (numbers ps) ≡ true
+all_below [] h = refl
+all_below (p ∷ []) h = refl
+all_below (p ∷ (q ∷ ps)) h =
+    let r = h 0 p (omega arith) in
+    let t = all_below (q ∷ ps) (λ k d l. rw add-one (rw add-one at (h (suc k) d (omega arith)))) in
+    grind (arith, nat_tests)
 
-module _ (ps : List Position) (i : ℕ) (d : Position) (o : Option ℕ) (all : Bool) (e : ascends_after o (numbers (drop i ps)) ≡ all) where
-  pub seen : i < length ps → (above o (get_or ps i d).number && ascends_after (Some (get_or ps i d).number) (numbers (drop (i + 1) ps))) ≡ all
-  seen l = sym (one_seen o (get_or ps i d).number (numbers (drop (i + 1) ps))) ∙ ap (λ z. ascends_after o (numbers z)) (sym (drop_more ps i d l)) ∙ e
-
-  pub left_none : length ps ≤ i → all ≡ true
-  left_none l = sym e ∙ ap (λ z. ascends_after o (numbers z)) (drop_all i ps l) ∙ none o
-    where
-      none : (o : Option ℕ) → ascends_after o [] ≡ true
-      none None = refl
-      none (Some y) = refl
+-- some is not
+pub some_above : (ps : List Position) (k : ℕ) → k + 1 < length ps
+    → ((d : Position) → false ≡ ltb (get_or ps k d).number (get_or ps (k + 1) d).number) → ascending (numbers ps) ≡ false
+some_above [] k l h = absurd (omega arith)
+some_above (p ∷ []) k l h = absurd (omega arith)
+some_above (p ∷ (q ∷ ps)) zero l h = let r = h p in grind (arith, nat_tests)
+some_above (p ∷ (q ∷ ps)) (suc k) l h =
+    let r = some_above (q ∷ ps) k (omega arith) (λ d. rw add-one (rw add-one at (h d))) in
+    grind (arith, nat_tests)

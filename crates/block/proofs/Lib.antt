@@ -1,6 +1,5 @@
 mod Ascents
 mod Composing
 mod Gathering
-mod Outputs
 mod Placing
 mod Running

@@ -1,15 +1,15 @@
 -- The reader's run over a readable block.
-use Rattle.std.proofs.Common.{◌≡◌, ℕ, zero, suc, ◌+◌, ◌*◌, ◌<◌, ◌≤◌, Bool, true, false, cond, not, ◌||◌, eqb, ltb, List, [], ◌∷◌, ◌++◌, map, length, take, drop, None, sym, refl, ap, ◌∙◌, ap₂, append-nil, mul-le-mul_left, mul-zero, zero-add, mul-suc, arith, length-drop, take-append-drop, take_all, drop-drop, take-add}
+use Rattle.std.proofs.Common.{◌≡◌, ℕ, zero, suc, ◌+◌, ◌*◌, ◌<◌, ◌≤◌, false, cond, List, [], ◌∷◌, ◌++◌, map, length, take, drop, None, sym, refl, ap, ◌∙◌, ap₂, append-nil, mul-le-mul_left, mul-zero, zero-add, mul-suc, arith, length-drop, take-append-drop, take_all, drop-drop, take-add}
 use mathlib.Core.List.{map-map}
-use Rattle.std.proofs.lemmas.Bool.{lt-ltb, le-ltb, eqb-true, not-false}
+use Rattle.std.proofs.lemmas.Bool.Decides.{nat_tests}
 use Rattle.std.proofs.lemmas.List.{map-append}
 use Rattle.laws.proofs.Order.{range}
 use Rattle.laws.proofs.Ranges.{below_range}
 use Rattle.laws.proofs.Packing.{concat_append}
 use Rattle.utreexo.specs.Bytes.{Bytes, part}
 use Rattle.utreexo.specs.Lists.{below}
-use Rattle.utreexo.specs.Blocks.{spent_count, hash_count, coin_count, concat}
-use Rattle.utreexo.specs.Checks.{cause, refusal, read_causes}
+use Rattle.utreexo.specs.Blocks.{concat}
+use Rattle.utreexo.specs.Checks.{refusal, read_causes}
 use Rattle.block.specs.declared.entry.Counts.{Counts}
 use Rattle.block.proofs.Gathering.{entries_read}
 use Rattle.block.specs.Reader.{Part, target, spent, hash, new, end, counts_in, targets_end, spent_end, hashes_end, coins_end, next_offset, taken, entry_at}
@@ -18,7 +18,7 @@ use Rattle.block.specs.Reader.{read_next, is_end, bytes_of, read_run, entries_fr
 -- an entry for which there are bytes enough
 enough : (kind : Bytes → Part) (w before o : ℕ) (rest : Bytes) → w ≤ length rest
     → ◌≡◌ {A = Part × ℕ × Bytes} (taken kind w before o rest) (kind (take w rest), o, drop w rest)
-enough kind w before o rest l = ap (λ t. cond t (end, before, rest) (kind (take w rest), o, drop w rest)) (le-ltb (length rest) w l)
+enough kind w before o rest l = grind (arith, nat_tests)
 
 -- what a run goes on with, once its next answer is known
 abbrev onward : ℕ → Counts → Part × ℕ × Bytes → List (Part × ℕ)
@@ -59,32 +59,9 @@ module _ (b : Bytes) (c : Counts) (kind : Bytes → Part) (plain : (x : Bytes) �
       let (last, p, r) = region n (suc i) f k (from + w * i) (omega arith) (omega arith) (after i (omega arith)) in
       (last, p, one i f before (omega arith) at ∙ ap (λ z. entry i ∷ z) r)
 
--- which of two, by a test
-yes_of : {A : Type 0} (t : Bool) (x y : A) → t ≡ true → cond t x y ≡ x
-yes_of t x y e = ap (λ t. cond t x y) e
-
-no_of : {A : Type 0} (t : Bool) (x y : A) → t ≡ false → cond t x y ≡ y
-no_of t x y e = ap (λ t. cond t x y) e
-
 -- the length that a readable block has
-third : (x y z : Bool) → refusal (cause 1 x ∷ cause 2 y ∷ cause 3 z ∷ []) ≡ None → z ≡ false
-third true y z e = let q : ◌≡◌ {A = ℕ} 0 1 = cc in absurd (omega arith)
-third false true z e = let q : ◌≡◌ {A = ℕ} 0 1 = cc in absurd (omega arith)
-third false false true e = let q : ◌≡◌ {A = ℕ} 0 1 = cc in absurd (omega arith)
-third false false false e = refl
-
-pub right_length : (b : Bytes) → refusal (read_causes b) ≡ None → length b ≡ 6 + 40 * spent_count b + 32 * hash_count b + 32 * coin_count b
-right_length b e =
-    let t = third (ltb (length b) 6) (ltb 32 (spent_count b) || (ltb 992 (hash_count b) || ltb 32 (coin_count b)))
-    (not (eqb (length b) (6 + 40 * spent_count b + 32 * hash_count b + 32 * coin_count b))) e in
-    eqb-true (length b) (6 + 40 * spent_count b + 32 * hash_count b + 32 * coin_count b)
-    (not-false (eqb (length b) (6 + 40 * spent_count b + 32 * hash_count b + 32 * coin_count b)) t)
-
--- past the targets every entry has 32 bytes
-after_targets : (c : Counts) (o : ℕ) → targets_end c ≤ o → next_offset c o ≡ o + 32
-after_targets c o l =
-    no_of (ltb o 6) 6 (cond (ltb o (targets_end c)) (o + 8) (o + 32)) (le-ltb o 6 (omega arith))
-    ∙ no_of (ltb o (targets_end c)) (o + 8) (o + 32) (le-ltb o (targets_end c) l)
+pub right_length : (b : Bytes) → refusal (read_causes b) ≡ None → length b ≡ coins_end (counts_in b)
+right_length b e = grind (arith, nat_tests)
 
 abbrev Answer : Type 0
 Answer = Part × ℕ × Bytes
@@ -93,47 +70,28 @@ module _ (b : Bytes) (e : refusal (read_causes b) ≡ None) where
   abbrev c : Counts
   c = counts_in b
 
-  long : length b ≡ coins_end c
-  long = right_length b e ∙ (omega arith)
-
   targets_here : (i before : ℕ) (rest : Bytes) → i < c.spent
       → ◌≡◌ {A = Answer} (entry_at c before (6 + 8 * i) rest) (taken target 8 before (6 + 8 * i) rest)
-  targets_here i before rest l = yes_of {A = Answer} (ltb (6 + 8 * i) (targets_end c)) _ _ (lt-ltb (6 + 8 * i) (targets_end c) (omega arith))
+  targets_here i before rest l = grind (arith, nat_tests)
 
   targets_after : (i : ℕ) → i < c.spent → next_offset c (6 + 8 * i) ≡ 6 + 8 * suc i
-  targets_after i l =
-      no_of (ltb (6 + 8 * i) 6) 6 (cond (ltb (6 + 8 * i) (targets_end c)) (6 + 8 * i + 8) (6 + 8 * i + 32)) (le-ltb (6 + 8 * i) 6 (omega arith))
-      ∙ yes_of (ltb (6 + 8 * i) (targets_end c)) (6 + 8 * i + 8) (6 + 8 * i + 32) (lt-ltb (6 + 8 * i) (targets_end c) (omega arith))
-      ∙ omega arith
+  targets_after i l = grind (arith, nat_tests)
 
   spent_here : (i before : ℕ) (rest : Bytes) → i < c.spent
       → ◌≡◌ {A = Answer} (entry_at c before (targets_end c + 32 * i) rest) (taken spent 32 before (targets_end c + 32 * i) rest)
-  spent_here i before rest l =
-      no_of {A = Answer} (ltb (targets_end c + 32 * i) (targets_end c)) _ _ (le-ltb (targets_end c + 32 * i) (targets_end c) (omega arith))
-      ∙ yes_of {A = Answer} (ltb (targets_end c + 32 * i) (spent_end c)) _ _ (lt-ltb (targets_end c + 32 * i) (spent_end c) (omega arith))
+  spent_here i before rest l = grind (arith, nat_tests)
 
   hashes_here : (i before : ℕ) (rest : Bytes) → i < c.hashes
       → ◌≡◌ {A = Answer} (entry_at c before (spent_end c + 32 * i) rest) (taken hash 32 before (spent_end c + 32 * i) rest)
-  hashes_here i before rest l =
-      no_of {A = Answer} (ltb (spent_end c + 32 * i) (targets_end c)) _ _ (le-ltb (spent_end c + 32 * i) (targets_end c) (omega arith))
-      ∙ no_of {A = Answer} (ltb (spent_end c + 32 * i) (spent_end c)) _ _ (le-ltb (spent_end c + 32 * i) (spent_end c) (omega arith))
-      ∙ yes_of {A = Answer} (ltb (spent_end c + 32 * i) (hashes_end c)) _ _ (lt-ltb (spent_end c + 32 * i) (hashes_end c) (omega arith))
+  hashes_here i before rest l = grind (arith, nat_tests)
 
   coins_here : (i before : ℕ) (rest : Bytes) → i < c.coins
       → ◌≡◌ {A = Answer} (entry_at c before (hashes_end c + 32 * i) rest) (taken new 32 before (hashes_end c + 32 * i) rest)
-  coins_here i before rest l =
-      no_of {A = Answer} (ltb (hashes_end c + 32 * i) (targets_end c)) _ _ (le-ltb (hashes_end c + 32 * i) (targets_end c) (omega arith))
-      ∙ no_of {A = Answer} (ltb (hashes_end c + 32 * i) (spent_end c)) _ _ (le-ltb (hashes_end c + 32 * i) (spent_end c) (omega arith))
-      ∙ no_of {A = Answer} (ltb (hashes_end c + 32 * i) (hashes_end c)) _ _ (le-ltb (hashes_end c + 32 * i) (hashes_end c) (omega arith))
-      ∙ yes_of {A = Answer} (ltb (hashes_end c + 32 * i) (coins_end c)) _ _ (lt-ltb (hashes_end c + 32 * i) (coins_end c) (omega arith))
+  coins_here i before rest l = grind (arith, nat_tests)
 
   -- no entry is left at the end
   over_here : (before : ℕ) (rest : Bytes) → ◌≡◌ {A = Answer} (entry_at c before (coins_end c) rest) (end, before, rest)
-  over_here before rest =
-      no_of {A = Answer} (ltb (coins_end c) (targets_end c)) _ _ (le-ltb (coins_end c) (targets_end c) (omega arith))
-      ∙ no_of {A = Answer} (ltb (coins_end c) (spent_end c)) _ _ (le-ltb (coins_end c) (spent_end c) (omega arith))
-      ∙ no_of {A = Answer} (ltb (coins_end c) (hashes_end c)) _ _ (le-ltb (coins_end c) (hashes_end c) (omega arith))
-      ∙ no_of {A = Answer} (ltb (coins_end c) (coins_end c)) _ _ (le-ltb (coins_end c) (coins_end c) (omega arith))
+  over_here before rest = grind (arith, nat_tests)
 
   stops : (k before : ℕ) (rest : Bytes) → next_offset c before ≡ coins_end c → read_run k c before rest ≡ []
   stops zero before rest at = refl
@@ -146,13 +104,14 @@ module _ (b : Bytes) (e : refusal (read_causes b) ≡ None) where
   at_start : (x : ℕ) → x ≡ x + 32 * 0
   at_start x = omega arith
 
+  -- past the targets every entry has 32 bytes
   after_32 : (from : ℕ) → targets_end c ≤ from → (i : ℕ) → next_offset c (from + 32 * i) ≡ from + 32 * suc i
-  after_32 from l i = after_targets c (from + 32 * i) (omega arith) ∙ omega arith
+  after_32 from l i = grind (arith, nat_tests)
 
   targets_listed : (k : ℕ)
       → (last : ℕ) × (next_offset c last ≡ targets_end c) × (read_run (c.spent + k) c 0 (drop 6 b)
       ≡ listed target 8 6 c.spent ++ read_run k c last (drop (targets_end c) b))
-  targets_listed k = let l = long in region b c target (λ x. refl) 8 6 c.spent targets_here targets_after (omega arith) c.spent 0 (c.spent + k) k 0
+  targets_listed k = let l = right_length b e in region b c target (λ x. refl) 8 6 c.spent targets_here targets_after (omega arith) c.spent 0 (c.spent + k) k 0
       (zero-add c.spent) refl refl
 
   -- entries of 32 bytes
@@ -192,13 +151,13 @@ module _ (b : Bytes) (e : refusal (read_causes b) ≡ None) where
       past₄ = omega arith
 
       room₂ : targets_end c + 32 * c.spent ≤ length b
-      room₂ = let l = long in omega arith
+      room₂ = let l = right_length b e in omega arith
 
       room₃ : spent_end c + 32 * c.hashes ≤ length b
-      room₃ = let l = long in omega arith
+      room₃ = let l = right_length b e in omega arith
 
       room₄ : hashes_end c + 32 * c.coins ≤ length b
-      room₄ = let l = long in omega arith
+      room₄ = let l = right_length b e in omega arith
 
   pub runs : (more : ℕ) → read_run (c.spent + (c.spent + (c.hashes + (c.coins + more)))) c 0 (drop 6 b) ≡ all_entries b
   runs more =
@@ -247,7 +206,7 @@ joined b e =
     k = counts_in b
 
     l : length b ≡ coins_end (counts_in b)
-    l = right_length b e ∙ (omega arith)
+    l = right_length b e
 
     E : (Bytes → Part) → ℕ → ℕ → ℕ → List (Part × ℕ)
     E kind w from m = entries_from kind w from m b

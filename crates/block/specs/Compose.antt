@@ -5,6 +5,7 @@ use Rattle.utreexo.specs.declared.types.Position.{Position}
 use Rattle.utreexo.specs.declared.types.Value.{Value}
 use Rattle.utreexo.specs.Bytes.{Bytes}
 use Rattle.utreexo.specs.Blocks.{Block}
+use Rattle.block.specs.declared.entry.Counts.{Counts}
 
 -- the positions' numbers
 abbrev pub numbers : List Position → List ℕ
@@ -17,6 +18,10 @@ Few t d h a = (t ≡ d) × (d ≤ 32) × (h ≤ 992) × (a ≤ 32)
 -- the block of the four lists
 abbrev pub block_of : List Position → List Coin → List Value → List Coin → Block
 block_of targets spent hashes coins = record { targets = numbers targets; spent = spent; hashes = hashes; coins = coins }
+
+-- its three counts
+abbrev pub counts_of : List Coin → List Value → List Coin → Counts
+counts_of spent hashes coins = record { spent = length spent; hashes = length hashes; coins = length coins }
 
 -- bytes put into others at an offset
 abbrev pub placed : ℕ → Bytes → Bytes → Bytes

@@ -1,8 +1,7 @@
 // The checks on a block that need no forest: the order of its targets, and whether it is a card.
-ghost use Rattle.std.specs.Prelude.{◌≡◌, not, ◌&&◌, [], ◌∷◌, ◌==◌};
+ghost use Rattle.std.specs.Prelude.{not, ◌&&◌, [], ◌∷◌, ◌==◌};
 ghost use Rattle.utreexo.specs.Blocks.{ascending};
 ghost use Rattle.utreexo.specs.Checks.{cause};
-ghost use Rattle.block.specs.Ascending.{above};
 ghost use Rattle.block.specs.Compose.{numbers};
 ghost use Rattle.utreexo.specs.Outcomes.{Judged};
 
@@ -10,28 +9,15 @@ use crate::entry::Counts;
 use refusal::Refusal;
 use utreexo::types::Position;
 
-// The number may come after the one before it, if there is one.
-fn follows(before: Option<u64>, number: u64) -> bool
-    ensures { result ≡ above before number }
-{
-    match before {
-        None => true,
-        Some(smaller) => smaller < number,
-    }
-}
-
 // The targets are strictly ascending.
 pub fn check_ascending(targets: &[Position]) -> Result<(), Refusal>
     ensures { Judged (cause 4 (not (ascending (numbers targets.now))) ∷ []) (λ _. Unit {0}) result }
 {
-    let mut before = None;
-    for target in targets {
-        if !follows(before, target.number) {
-            return Err(Refusal::TargetsNotAscending);
-        }
-        before = Some(target.number);
+    if targets.is_sorted_by(|a, b| a.number < b.number) {
+        Ok(())
+    } else {
+        Err(Refusal::TargetsNotAscending)
     }
-    Ok(())
 }
 
 // A card spends one coin and adds none.

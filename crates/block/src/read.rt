@@ -1,5 +1,5 @@
 // Reading a block: the checks first, then the entries one at a time.
-ghost use Rattle.std.specs.Prelude.{◌≡◌, ℕ, ◌+◌, ◌*◌, ◌^◌, ◌<◌};
+ghost use Rattle.std.specs.Prelude.{◌≡◌, ◌<◌};
 ghost use Rattle.utreexo.specs.Checks.{read_causes};
 ghost use Rattle.utreexo.specs.Outcomes.{Judged};
 ghost use Rattle.block.specs.Reader.{counts_in, coins_end, next_offset, Reads, RunReads};
@@ -14,6 +14,7 @@ pub fn check_length(block: &[u8]) -> Result<Counts, Refusal>
     let [d0, d1, h0, h1, a0, a1, ..] = block else {
         return Err(Refusal::BlockTooShort);
     };
+    // `Record::from_bytes` is no plainer: it takes a reference to the same two bytes.
     let counts = Counts {
         spent: u16::from_le_bytes([*d0, *d1]),
         hashes: u16::from_le_bytes([*h0, *h1]),
@@ -22,11 +23,7 @@ pub fn check_length(block: &[u8]) -> Result<Counts, Refusal>
     if counts.spent > 32 || counts.hashes > 992 || counts.coins > 32 {
         return Err(Refusal::OverLimit);
     }
-    let length = 6
-        + 40 * counts.spent as usize
-        + 32 * counts.hashes as usize
-        + 32 * counts.coins as usize;
-    if block.len() != length {
+    if block.len() != counts.coins_end() {
         return Err(Refusal::WrongLength);
     }
     Ok(counts)
@@ -39,7 +36,7 @@ fn next_offset(counts: Counts, before: usize) -> usize
 {
     if before < 6 {
         6
-    } else if before < 6 + 8 * counts.spent as usize {
+    } else if before < counts.targets_end() {
         before + 8
     } else {
         before + 32
@@ -48,34 +45,32 @@ fn next_offset(counts: Counts, before: usize) -> usize
 
 // The entry after the one at this offset (0 for none yet), with its own offset from the block's first byte and the unread rest. So
 // what is given back is what the next call is given. Where no entry is left, or too few bytes are, the answer is the end.
+// The tuple, and the end as a case of the entry, are the form that the scope names.
 pub fn next<'a>(counts: Counts, offset: usize, rest: &'a [u8]) -> (Entry<'a>, usize, &'a [u8])
     ensures { Reads counts offset rest.now result }
 {
-    let targets_end = 6 + 8 * counts.spent as usize;
-    let spent_end = targets_end + 32 * counts.spent as usize;
-    let hashes_end = spent_end + 32 * counts.hashes as usize;
-    let coins_end = hashes_end + 32 * counts.coins as usize;
-    if offset >= coins_end {
-        return (Entry::End, offset, rest);
+    let end = (Entry::End, offset, rest);
+    if offset >= counts.coins_end() {
+        return end;
     }
     let at = next_offset(counts, offset);
-    if at < targets_end {
-        return match rest.split_first_chunk::<8>() {
-            Some((bytes, after)) => (Entry::Target(bytes), at, after),
-            None => (Entry::End, offset, rest),
+    if at < counts.targets_end() {
+        let Some((bytes, after)) = rest.split_first_chunk::<8>() else {
+            return end;
         };
+        return (Entry::Target(bytes), at, after);
     }
     let Some((bytes, after)) = rest.split_first_chunk::<32>() else {
-        return (Entry::End, offset, rest);
+        return end;
     };
-    if at < spent_end {
+    if at < counts.spent_end() {
         (Entry::Spent(bytes), at, after)
-    } else if at < hashes_end {
+    } else if at < counts.hashes_end() {
         (Entry::Hash(bytes), at, after)
-    } else if at < coins_end {
+    } else if at < counts.coins_end() {
         (Entry::New(bytes), at, after)
     } else {
-        (Entry::End, offset, rest)
+        end
     }
 }
 

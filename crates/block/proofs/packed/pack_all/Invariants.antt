@@ -1,10 +1,11 @@
-use Rattle.std.proofs.Common.{◌≡◌, ◌+◌, length}
+use Rattle.std.proofs.Common.{◌≡◌, ◌+◌, map, length}
+use Rattle.utreexo.specs.Blocks.{concat}
 use Rattle.block.specs.Compose.{placed}
-use Rattle.block.proofs.Placing.{packed_up}
+use Rattle.block.proofs.Placing.{left}
 use Rattle.block.proofs.packed.pack_all.Given as goal
 
--- so many records are placed, and the next goes behind them
+-- with the records that are left placed too, all are
 abbrev pub invariant-loop-item : goal.invariant-loop-item
 invariant-loop-item g l =
-    (l.start ≡ l.at + length (packed_up g.T.Packed.packed l.item-index l.items))
-    × (l.out ≡ placed l.at (packed_up g.T.Packed.packed l.item-index l.items) l.initial.out)
+    (l.start + length (left g.T.Record.packed l.item-index l.items) ≡ l.at + length (concat (map g.T.Record.packed l.items)))
+    × (placed l.start (left g.T.Record.packed l.item-index l.items) l.out ≡ placed l.at (concat (map g.T.Record.packed l.items)) l.initial.out)
