@@ -10,7 +10,6 @@ use utreexo::types::Position;
 // What a call gave.
 #[derive(Drop)]
 pub(crate) enum Output {
-    Nothing,
     Digest([u8; 32]),
     Counts(Counts),
     // a row and place, and the position of the root above
@@ -29,8 +28,7 @@ fn write_entry<W: fmt::Write>(
     bytes: &[u8],
 ) -> fmt::Result {
     let separator = if at > 6 { ";" } else { "" };
-    let hex = Hex(bytes);
-    write!(f, "{separator}{kind}@{at}:{hex}")
+    write!(f, "{separator}{kind}@{at}:{}", Hex(bytes))
 }
 
 // All entries of a readable block, as the reader hands them out.
@@ -44,6 +42,7 @@ fn write_entries<W: fmt::Write>(
     }
     let (_, mut rest) = block.split_at(6);
     let mut offset = 0;
+    // An iterator over the reader is no plainer: it takes a struct and the fact that it ends, and the end stays a case of the entry.
     for _ in 0..block.len() {
         let (entry, at, after) = read::next(counts, offset, rest);
         match entry {
@@ -62,53 +61,50 @@ fn write_entries<W: fmt::Write>(
 impl fmt::Display for Output {
     fn fmt<W: fmt::Write>(&self, f: &mut fmt::Formatter<W>) -> fmt::Result {
         match self {
-            Output::Nothing => write!(f, "-"),
-            Output::Digest(digest) => {
-                let hex = Hex(digest);
-                write!(f, "{hex}")
-            }
+            Output::Digest(digest) => write!(f, "{}", Hex(digest)),
             Output::Counts(counts) => {
-                let spent = counts.spent;
-                let hashes = counts.hashes;
-                let coins = counts.coins;
-                write!(f, "{spent},{hashes},{coins}")
+                write!(f, "{},{},{}", counts.spent, counts.hashes, counts.coins)
             }
             Output::Place(node, root) => {
-                let row = node.row;
-                let place = node.place;
-                let number = root.number;
-                write!(f, "{row},{place},{number}")
+                write!(f, "{},{},{}", node.row, node.place, root.number)
             }
             Output::Entries(counts, block) => write_entries(f, *counts, block.as_slice()),
-            Output::Buffer(bytes) => {
-                let hex = Hex(bytes.as_slice());
-                write!(f, "{hex}")
-            }
+            Output::Buffer(bytes) => write!(f, "{}", Hex(bytes.as_slice())),
         }
     }
 }
 
-// The answer to a call: 0 or the number of its refusal, and what it gave.
+// The answer to a call: its refusal, if it was refused, and what it gave. A refused call may give something: its output buffer.
 #[derive(Drop)]
 pub(crate) struct Answer {
-    number: u8,
-    output: Output,
+    pub(crate) refusal: Option<Refusal>,
+    pub(crate) output: Option<Output>,
 }
 
-pub(crate) fn granted(output: Output) -> Answer {
-    Answer { number: 0, output }
-}
-
-pub(crate) fn refused(refusal: Refusal, output: Output) -> Answer {
-    Answer {
-        number: refusal.number(),
-        output,
+// A call gives something or is refused.
+impl From<Result<Output, Refusal>> for Answer {
+    fn from(outcome: Result<Output, Refusal>) -> Answer {
+        match outcome {
+            Ok(output) => Answer {
+                refusal: None,
+                output: Some(output),
+            },
+            Err(refusal) => Answer {
+                refusal: Some(refusal),
+                output: None,
+            },
+        }
     }
 }
 
+// 0 stands for no refusal, and - for no output.
 impl fmt::Display for Answer {
     fn fmt<W: fmt::Write>(&self, f: &mut fmt::Formatter<W>) -> fmt::Result {
-        let number = self.number;
-        write!(f, "{number} - - - {}", self.output)
+        let number = self.refusal.map_or(0, |refusal| refusal.number());
+        write!(f, "{number} - - - ")?;
+        match &self.output {
+            Some(output) => write!(f, "{output}"),
+            None => write!(f, "-"),
+        }
     }
 }

@@ -12,33 +12,28 @@ pub(crate) enum Argument {
 
 fn read_one(heap: Global, text: &str) -> Result<Argument, Fault> {
     match text.strip_prefix("#") {
-        Some(decimal) => match decimal.parse::<u64>() {
-            Ok(number) => Ok(Argument::Number(number)),
-            Err(_) => Err(Fault::Unreadable),
-        },
+        Some(decimal) => {
+            let number = decimal.parse().map_err(|_| Fault::Unreadable)?;
+            Ok(Argument::Number(number))
+        }
         None => Ok(Argument::Bytes(hex::read(heap, text)?)),
     }
 }
 
 // All arguments of a call. The text `-` has none.
 pub(crate) fn read(heap: Global, text: &str) -> Result<Vec<Argument>, Fault> {
-    let mut all = Vec::new(heap);
     if text == "-" {
-        return Ok(all);
+        return Ok(Vec::new(heap));
     }
-    for part in text.split(',') {
-        all.push(read_one(heap, part)?)?;
-    }
-    Ok(all)
+    text.split(',')
+        .map(|part| read_one(heap, part))
+        .try_collect(heap)
 }
 
 // The bytes of a call that takes bytes alone.
 pub(crate) fn only_bytes(arguments: &[Argument]) -> Result<&[u8], Fault> {
-    let [only] = arguments else {
+    let [Argument::Bytes(bytes)] = arguments else {
         return Err(Fault::Mismatched);
     };
-    match only {
-        Argument::Bytes(bytes) => Ok(bytes.as_slice()),
-        Argument::Number(_) => Err(Fault::Mismatched),
-    }
+    Ok(bytes.as_slice())
 }

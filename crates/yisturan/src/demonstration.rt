@@ -4,7 +4,7 @@ use compression::hash::*;
 use compression::tally::*;
 use compression::{Compression, join};
 use std::fmt;
-use utreexo::record::*;
+use utreexo::record::Record;
 use utreexo::types::*;
 
 #[derive(Clone, Copy)]

@@ -38,14 +38,13 @@ pub(crate) fn read(heap: Global, text: &str) -> Result<Vec<u8>, Fault> {
     if text == "." {
         return Ok(bytes);
     }
-    let pairs = text.as_bytes().chunks_exact(2);
-    if text.is_empty() || text.len() % 2 == 1 {
+    let (pairs, rest) = text.as_bytes().as_chunks::<2>();
+    if pairs.is_empty() || !rest.is_empty() {
         return Err(Fault::Unreadable);
     }
-    for pair in pairs {
-        let (Some(high), Some(low)) = (digit(pair[0]), digit(pair[1])) else {
-            return Err(Fault::Unreadable);
-        };
+    for [high, low] in pairs {
+        let high = digit(*high).ok_or(Fault::Unreadable)?;
+        let low = digit(*low).ok_or(Fault::Unreadable)?;
         bytes.push(16 * high + low)?;
     }
     Ok(bytes)

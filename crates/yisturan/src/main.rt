@@ -20,6 +20,7 @@ fn demonstrate(rt: &HostRuntime) -> anyhow::Result<()> {
 }
 
 fn perform(rt: &HostRuntime, task: &str) -> anyhow::Result<()> {
+    // A task is a word from outside, so it is matched as text; closures in its place would only hide these names.
     match task {
         "demonstration" => demonstrate(rt),
         "script" => {

@@ -6,6 +6,7 @@ use crate::{arguments, blocks, places};
 use std::alloc::Global;
 use std::io;
 use std::io::{BufRead, BufReader};
+use std::str::FromStr;
 
 #[derive(Clone, Copy)]
 enum Call {
@@ -16,23 +17,25 @@ enum Call {
     Place,
 }
 
-fn named(name: &str) -> Result<Call, Fault> {
-    match name {
-        "blake2s" => Ok(Call::Blake2s),
-        "read" => Ok(Call::Read),
-        "entries" => Ok(Call::Entries),
-        "compose" => Ok(Call::Compose),
-        "place" => Ok(Call::Place),
-        _ => Err(Fault::Call),
+impl FromStr for Call {
+    type Err = Fault;
+
+    fn from_str(name: &str) -> Result<Call, Fault> {
+        match name {
+            "blake2s" => Ok(Call::Blake2s),
+            "read" => Ok(Call::Read),
+            "entries" => Ok(Call::Entries),
+            "compose" => Ok(Call::Compose),
+            "place" => Ok(Call::Place),
+            _ => Err(Fault::Call),
+        }
     }
 }
 
 // blake2s message
 fn digest(arguments: &[Argument]) -> Result<Answer, Fault> {
-    match blake2s::digest(only_bytes(arguments)?) {
-        Ok(digest) => Ok(granted(Output::Digest(digest))),
-        Err(refusal) => Ok(refused(refusal, Output::Nothing)),
-    }
+    let output = blake2s::digest(only_bytes(arguments)?).map(Output::Digest);
+    Ok(Answer::from(output))
 }
 
 // Makes the call that a line names. A new call is a name, a case of `Call`, and a function that takes its arguments apart.
@@ -46,11 +49,12 @@ fn make_call(heap: Global, line: &str) -> Result<Answer, Fault> {
     ) else {
         return Err(Fault::Fields);
     };
-    if compression != "0" && compression != "1" && compression != "2" {
+    if !matches!(compression, "0" | "1" | "2") {
         return Err(Fault::Compression);
     }
-    let call = named(name)?;
+    let call = name.parse::<Call>()?;
     let arguments = arguments::read(heap, text)?;
+    // Which call is made is read from text, so it is a case; closures in its place would only hide these names.
     match call {
         Call::Blake2s => digest(arguments.as_slice()),
         Call::Read => blocks::read_counts(arguments.as_slice()),
@@ -70,7 +74,7 @@ pub(crate) fn run(rt: &HostRuntime) -> io::Result<()> {
         } else {
             match make_call(rt.alloc(), text) {
                 Ok(answer) => println!(rt; "{text} {answer}")?,
-                Err(fault) => println!(rt; "{fault}")?,
+                Err(fault) => println!(rt; "! {fault}")?,
             }
         }
     }
