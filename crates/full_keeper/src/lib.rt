@@ -12,7 +12,7 @@ use crate::layout::*;
 use crate::relay::*;
 use compression::Compression;
 use keeper::Keeper;
-use keeper::run::is_within;
+use keeper::run::Run;
 use refusal::Refusal;
 use std::alloc::{AllocError, Global};
 use std::marker::PhantomData;
@@ -99,11 +99,11 @@ impl<C: Compression> Keeper<C> for Full<C> {
         Ok(self.coins[at])
     }
 
-    fn value(&self, row: u8, place: u64) -> Result<Option<Value>, Refusal> {
-        if !is_within(self.coins.len() as u32, row, place) {
+    fn value(&self, run: Run) -> Result<Option<Value>, Refusal> {
+        if !run.is_within(self.count()) {
             return Err(Refusal::NotFound);
         }
-        let at = index_of(self.rows, row, place as usize);
+        let at = index_of(self.rows, run.row, run.place as usize);
         Ok(self.table[at])
     }
 

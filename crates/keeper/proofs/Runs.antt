@@ -1,9 +1,9 @@
 -- Runs within a count, and the values over them.
-use Rattle.std.proofs.Common.{◌≡◌, ℕ, zero, suc, ◌+◌, ◌-◌, ◌*◌, ◌/◌, ◌^◌, ◌<◌, ◌≤◌, false, ltb, get_or, None, sym, ap, ◌∙◌, ⊎_elim, mul-le-mul_right, div-mul-le_self, arith, pow_pos, pow_mono, shr-shr}
+use Rattle.std.proofs.Common.{◌≡◌, ℕ, zero, suc, ◌+◌, ◌-◌, ◌*◌, ◌/◌, ◌^◌, ◌<◌, ◌≤◌, false, ltb, sym, ap, ◌∙◌, ⊎_elim, mul-le-mul_right, div-mul-le_self, arith, pow_pos, pow_mono, shr-shr}
 use Rattle.std.proofs.lemmas.Nat.{le-div}
 use Rattle.std.proofs.lemmas.Bool.{cases_lt, lt-ltb, le-ltb, le-leb, lt-leb}
 use Rattle.utreexo.specs.Values.{Image, join}
-use Rattle.utreexo.specs.Forest.{Slots, leaf_value, value_over}
+use Rattle.utreexo.specs.Forest.{Slots, value_over}
 use Rattle.keeper.specs.Calls.{run_within}
 
 pub run_up : (n r : ℕ) → n / 2 ^ r / 2 ≡ n / 2 ^ suc r
@@ -40,9 +40,6 @@ far_test n r o h g =
     sym (lt-leb ((o + 1) * 2 ^ r) n (omega arith))
 
 -- a value in one step
-pub value_leaf : (image : Image) (s : Slots) (row o : ℕ) → row ≡ 0 → value_over image s row o ≡ leaf_value image (get_or s o None)
-value_leaf image s row o e = rw e
-
 pub value_node : (image : Image) (s : Slots) (row o : ℕ) → 0 < row → value_over image s row o ≡ join image (value_over image s (row - 1) (2 * o)) (value_over image s (row - 1) (2 * o + 1))
 value_node image s zero o p = absurd (omega arith)
 value_node image s (suc r) o p = let e : suc r - 1 ≡ r = omega arith in rw e

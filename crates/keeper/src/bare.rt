@@ -22,15 +22,16 @@ pub struct Bare<C: Compression> {
 }
 
 // The value over a run within the slots, from those over its halves.
-fn value_over<C: Compression>(slots: &[Option<Coin>], row: u8, place: u64) -> Option<Value>
-    requires { place < length slots.now / 2 ^ row }
-    ensures { result ≡ value_over C.Compression.image slots.now row place }
+fn value_over<C: Compression>(slots: &[Option<Coin>], run: Run) -> Option<Value>
+    requires { run.place < length slots.now / 2 ^ run.row }
+    ensures { result ≡ value_over C.Compression.image slots.now run.row run.place }
 {
-    if row == 0 {
-        return leaf_value::<C>(slots[place as usize]);
+    if run.row == 0 {
+        return leaf_value::<C>(slots[run.place as usize]);
     }
-    let left = value_over::<C>(slots, row - 1, 2 * place);
-    let right = value_over::<C>(slots, row - 1, 2 * place + 1);
+    let (left, right) = run.halves();
+    let left = value_over::<C>(slots, left);
+    let right = value_over::<C>(slots, right);
     join::<C>(left, right)
 }
 
@@ -45,6 +46,13 @@ impl<C: Compression> Bare<C> {
             limit: capacity,
             compression: PhantomData,
         })
+    }
+
+    // The slots, from slot 0.
+    pub fn slots(&self) -> &[Option<Coin>]
+        ensures { result.now ≡ self.now.coins.items }
+    {
+        self.coins.as_slice()
     }
 }
 
@@ -68,18 +76,17 @@ impl<C: Compression> Keeper<C> for Bare<C> {
     }
 
     fn coin(&self, slot: Slot) -> Result<Option<Coin>, Refusal> {
-        let at = slot.number as usize;
-        if at >= self.coins.len() {
-            return Err(Refusal::NotFound);
-        }
-        Ok(self.coins[at])
+        self.coins
+            .get(slot.number as usize)
+            .copied()
+            .ok_or(Refusal::NotFound)
     }
 
-    fn value(&self, row: u8, place: u64) -> Result<Option<Value>, Refusal> {
-        if !is_within(self.coins.len() as u32, row, place) {
+    fn value(&self, run: Run) -> Result<Option<Value>, Refusal> {
+        if !run.is_within(self.count()) {
             return Err(Refusal::NotFound);
         }
-        Ok(value_over::<C>(self.coins.as_slice(), row, place))
+        Ok(value_over::<C>(self.slots(), run))
     }
 
     fn append(&mut self, coin: Coin) -> Result<(), Refusal> {
@@ -91,33 +98,26 @@ impl<C: Compression> Keeper<C> for Bare<C> {
     }
 
     fn blank(&mut self, slot: Slot) -> Result<(), Refusal> {
-        let at = slot.number as usize;
-        if at >= self.coins.len() {
-            return Err(Refusal::NotFound);
+        match self.coins.get_mut(slot.number as usize) {
+            Some(entry) if entry.is_some() => {
+                *entry = None;
+                Ok(())
+            }
+            _ => Err(Refusal::NotFound),
         }
-        if self.coins[at].is_none() {
-            return Err(Refusal::NotFound);
-        }
-        self.coins[at] = None;
-        Ok(())
     }
 
     fn refill(&mut self, slot: Slot, coin: Coin) -> Result<(), Refusal> {
-        let at = slot.number as usize;
-        if at >= self.coins.len() {
-            return Err(Refusal::NotFound);
+        match self.coins.get_mut(slot.number as usize) {
+            Some(entry) if entry.is_none() => {
+                *entry = Some(coin);
+                Ok(())
+            }
+            _ => Err(Refusal::NotFound),
         }
-        if self.coins[at].is_some() {
-            return Err(Refusal::NotFound);
-        }
-        self.coins[at] = Some(coin);
-        Ok(())
     }
 
     fn cut(&mut self) -> Result<(), Refusal> {
-        match self.coins.pop() {
-            Some(_) => Ok(()),
-            None => Err(Refusal::NotFound),
-        }
+        self.coins.pop().map(|_| ()).ok_or(Refusal::NotFound)
     }
 }

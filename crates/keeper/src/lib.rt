@@ -8,6 +8,7 @@ ghost use Rattle.std.specs.Prelude.{◌≡◌, ℕ, ◌^◌, ◌<◌, ◌≤◌,
 ghost use Rattle.utreexo.specs.Forest.{Slots};
 ghost use Rattle.keeper.specs.Calls.{coin_read, value_read, AnswersWithin, Appended, Blanked, Refilled, Cut};
 
+use crate::run::Run;
 use compression::Compression;
 use refusal::Refusal;
 use utreexo::types::{Coin, Slot, Value};
@@ -33,10 +34,10 @@ pub trait Keeper<C: Compression> {
     fn coin(&self, slot: Slot) -> Result<Option<Coin>, Refusal>
         ensures { result ≡ coin_read (slots self.now) slot.number };
 
-    // The value over the run of 2^row slots at a place; None if it is wholly blank.
-    fn value(&self, row: u8, place: u64) -> Result<Option<Value>, Refusal>
-        ensures within { AnswersWithin (slots self.now) row place result }
-        ensures answer { sound self.now → result ≡ value_read C.Compression.image (slots self.now) row place };
+    // The value over a run; None if it is wholly blank.
+    fn value(&self, run: Run) -> Result<Option<Value>, Refusal>
+        ensures within { AnswersWithin (slots self.now) run.row run.place result }
+        ensures answer { sound self.now → result ≡ value_read C.Compression.image (slots self.now) run.row run.place };
 
     fn append(&mut self, coin: Coin) -> Result<(), Refusal>
         ensures after { Appended (slots self.old) (limit self.old) coin result (slots self.new) }

@@ -1,24 +1,46 @@
 // Runs of slots: 2^row of them, aligned, at a place of their row.
-ghost use Rattle.std.specs.Prelude.{◌≡◌};
+ghost use Rattle.std.specs.Prelude.{◌≡◌, ◌+◌, ◌-◌, ◌*◌, ◌^◌, ◌<◌};
 ghost use Rattle.utreexo.specs.Forest.{leaf_value};
 ghost use Rattle.keeper.specs.Calls.{run_within};
 
 use compression::Compression;
 use utreexo::types::{Coin, Value};
 
-// Whether a run lies within the count. Any numbers may be asked: nothing is multiplied.
-pub fn is_within(count: u32, row: u8, place: u64) -> bool
-    ensures { result ≡ run_within count row place }
-{
-    row < 32 && place < (count >> row) as u64
+// Any numbers may be asked for.
+#[derive(Clone, Copy, PartialEq, Eq, Debug)]
+pub struct Run {
+    pub row: u8,
+    pub place: u64,
+}
+
+impl Run {
+    // Whether a run lies within the count. Nothing is multiplied, so that large numbers are judged right.
+    pub fn is_within(self, count: u32) -> bool
+        ensures { result ≡ run_within count self.row self.place }
+    {
+        self.row < 32 && self.place < (count >> self.row) as u64
+    }
+
+    // The left half of a run, and the right one.
+    pub fn halves(self) -> (Run, Run)
+        requires { (0 < self.row) × (self.place < 2 ^ 63) }
+        ensures rows { (result.0.row ≡ self.row - 1) × (result.1.row ≡ self.row - 1) }
+        ensures places { (result.0.place ≡ 2 * self.place) × (result.1.place ≡ 2 * self.place + 1) }
+    {
+        let row = self.row - 1;
+        let place = 2 * self.place;
+        let left = Run { row, place };
+        let right = Run {
+            row,
+            place: place + 1,
+        };
+        (left, right)
+    }
 }
 
 // The value over one slot.
 pub fn leaf_value<C: Compression>(coin: Option<Coin>) -> Option<Value>
     ensures { result ≡ leaf_value C.Compression.image coin }
 {
-    match coin {
-        Some(coin) => Some(C::leaf(coin)),
-        None => None,
-    }
+    coin.map(|coin| C::leaf(coin))
 }

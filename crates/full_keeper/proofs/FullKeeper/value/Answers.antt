@@ -11,14 +11,14 @@ pub index_of-at-requires : goal.index_of-at-requires
 index_of-at-requires g c =
     let m = c.args.self.now in
     let h = true-leb _ _ c.if-not-is_within.ensures in
-    let q = readable (vec_len m.coins) m.limit m.rows m.top c.args.row c.args.place (vec_len m.table) m.fits m.small m.high m.least m.room (omega arith) in
+    let q = readable (vec_len m.coins) m.limit m.rows m.top c.args.run.row c.args.run.place (vec_len m.table) m.fits m.small m.high m.least m.room (omega arith) in
     (q.low, (q.row, q.place))
 
 pub index-requires : goal.index-requires
 index-requires g c =
     let m = c.args.self.now in
     let h = true-leb _ _ c.if-not-is_within.ensures in
-    let q = readable (vec_len m.coins) m.limit m.rows m.top c.args.row c.args.place (vec_len m.table) m.fits m.small m.high m.least m.room (omega arith) in
+    let q = readable (vec_len m.coins) m.limit m.rows m.top c.args.run.row c.args.run.place (vec_len m.table) m.fits m.small m.high m.least m.room (omega arith) in
     omega (arith, q.here)
 
 pub returns : goal.returns
@@ -27,8 +27,8 @@ returns g c =
     let image = g.C.Compression.image in
     let s = vec_items m.coins in
     let t = vec_items m.table in
-    let row = c.args.row in
-    let place = c.args.place in
+    let row = c.args.run.row in
+    let place = c.args.run.place in
     let size = m.coins.ok.0 in
     let h = true-leb _ _ c.if-not-is_within.ensures in
     let test : run_within (length s) row place ≡ true = le-leb ((place + 1) * 2 ^ row) (length s) (omega arith) in
