@@ -1,12 +1,13 @@
 -- Where runs stand in a table.
-use Rattle.std.proofs.Common.{◌≡◌, ℕ, ◌+◌, ◌-◌, ◌*◌, ◌/◌, ◌^◌, ◌<◌, ◌≤◌, sym, ap, ◌∙◌, subst, arith, pow_mono}
+use Rattle.std.proofs.Common.{◌≡◌, ℕ, ◌+◌, ◌-◌, ◌*◌, ◌/◌, ◌^◌, ◌<◌, ◌≤◌, sym, refl, ap, ◌∙◌, subst, arith, pow_mono}
+use Rattle.utreexo.specs.Forest.{rows}
 use Rattle.laws.proofs.Places.{up_shr}
 use Rattle.laws.proofs.Positions.{in_rows}
 use Rattle.place.proofs.Powers.{pow_next, length_once}
 use Rattle.place.proofs.Numbers.{Numbered}
-use Rattle.keeper.proofs.Runs.{run_in, halves}
-use Rattle.full_keeper.specs.Table.{index, Least}
-use Rattle.full_keeper.proofs.Rows.{fitting}
+use Rattle.keeper.proofs.Runs.{halves}
+use Rattle.full_keeper.specs.Table.{index}
+use Rattle.full_keeper.proofs.Rows.{Fitting, fitting, room}
 
 -- place o of row r, d rows below the top
 abbrev pub Indexed : ℕ → ℕ → ℕ → ℕ → Type 0
@@ -51,42 +52,31 @@ index_0 R o = let e = index_sum R 0 R o (omega arith) in omega arith
 pub record Reach (n R r o len : ℕ) : Type 0 where
   pub row : r ≤ R
   pub here : index R r o < len
-  pub below : index R (r - 1) (2 * o) + 1 < len
-  pub place : o < 2 ^ R
+  pub left : index R (r - 1) (2 * o) < len
+  pub right : index R (r - 1) (2 * o + 1) < len
 
-pub reach : (n R r o len : ℕ) → n ≤ 2 ^ R → 2 ^ (R + 1) ≤ len → 0 < r → o < n / 2 ^ r → Reach n R r o len
-reach n R r o len top room pos h =
-    let a = indexed n R r o top h in
-    let b = indexed n R (r - 1) (2 * o + 1) top (halves n r o pos h) in
+pub reach : (n R r o len : ℕ) → Fitting n R len → 0 < r → o < n / 2 ^ r → Reach n R r o len
+reach n R r o len f pos h =
+    let room = f.room in
+    let a = indexed n R r o f.high h in
+    let b = indexed n R (r - 1) (2 * o + 1) f.high (halves n r o pos h) in
     let x = index_in R r o a.0 a.1 in
     let y = index_in R (r - 1) (2 * o + 1) b.0 b.1 in
-    let w = a.1.wide in
-    let s = a.1.small in
     let z = a.1.depth in
-    record { row = omega arith; here = omega arith; below = omega arith; place = omega arith }
+    record { row = omega arith; here = omega arith; left = omega arith; right = omega arith }
 
--- what reading the entry of a run within n takes
-pub record Readable (n R r o len : ℕ) : Type 0 where
-  pub within : o < n / 2 ^ r
-  pub low : R ≤ 32
+-- what reading the value over a run within the count takes
+pub record Readable (R r o len : ℕ) : Type 0 where
   pub row : r ≤ R
   pub place : o < 2 ^ 33
   pub here : index R r o < len
 
-pub readable : (n l R T r o len : ℕ) → n ≤ l → l < 2 ^ 32 → Least l T → Least n R → len ≡ 2 ^ (T + 1) → (o + 1) * 2 ^ r ≤ n → Readable n R r o len
-readable n l R T r o len h g a b e run =
-    let f = fitting n l R T len h g a b e in
-    let i = run_in n r o run in
-    let s = indexed n R r o f.high i in
-    let w = s.1.wide in
-    let p = s.1.small in
-    let q = s.1.depth in
-    let low = f.low in
-    let room = f.room in
-    record {
-      within = i;
-      low = low;
-      row = omega arith;
-      place = omega (arith, pow_mono {i = R} {j = 32} low);
-      here = omega (arith, index_in R r o s.0 s.1);
-    }
+pub readable : (n l R r o len : ℕ) → n ≤ l → l < 2 ^ 32 → R ≡ rows n → R ≤ 32 → 2 ^ (rows l + 1) ≤ len → o < n / 2 ^ r → Readable R r o len
+readable n l R r o len h g e low top i =
+    let f = fitting n n R len (omega arith) (omega arith) e (room n l len len h g refl top) in
+    let a = indexed n R r o f.high i in
+    let d = a.1.depth in
+    let s = a.1.small in
+    let w = a.1.wide in
+    let m = f.room in
+    record { row = omega arith; place = omega (arith, pow_mono {i = R} {j = 32} low); here = omega (arith, index_in R r o a.0 a.1) }

@@ -1,5 +1,5 @@
 -- What a change of the slots, or of the table, leaves stored.
-use Rattle.std.proofs.Common.{◌≡◌, ℕ, zero, suc, ◌+◌, ◌-◌, ◌*◌, ◌/◌, ◌^◌, ◌<◌, ◌≤◌, [], ◌∷◌, ◌++◌, length, get_or, take, set, None, Option, sym, ap, ◌∙◌, subst, ⊎_elim, le_of_mul-le-mul_right, arith, length-append, length-set, length-take, pow_pos, shr-shr}
+use Rattle.std.proofs.Common.{◌≡◌, ℕ, zero, suc, ◌+◌, ◌-◌, ◌*◌, ◌/◌, ◌^◌, ◌<◌, ◌≤◌, min, [], ◌∷◌, ◌++◌, length, get_or, take, set, None, Option, sym, ap, ◌∙◌, subst, ⊎_elim, le_of_mul-le-mul_right, arith, length-append, length-set, length-take, pow_pos, shr-shr}
 use native.Mathlib.Nat.{lt-div-mul-add}
 use lib.Pow.{shr_mono}
 use Rattle.std.proofs.lemmas.List.{get_or-set_same, get_or-set_other, get_or_append_left, get_or-take}
@@ -7,9 +7,10 @@ use Rattle.std.proofs.lemmas.Bool.{cases_lt, cases_eq}
 use Rattle.utreexo.specs.declared.types.Coin.{Coin}
 use Rattle.utreexo.specs.declared.types.Value.{Value}
 use Rattle.utreexo.specs.Values.{Image}
-use Rattle.utreexo.specs.Forest.{Slots, leaf_value, value_over}
+use Rattle.utreexo.specs.Forest.{Slots, leaf_value, value_over, rows}
 use Rattle.keeper.proofs.Runs.{run_up, run_out}
-use Rattle.full_keeper.specs.Table.{Table, index, Stored, StoredBut, Laid}
+use Rattle.full_keeper.specs.Table.{Table, index, AtPositions, Stored, StoredBut, Laid}
+use Rattle.full_keeper.proofs.Rows.{Fitting}
 use Rattle.full_keeper.proofs.Indices.{indexed, index_once, index_in}
 
 module _ (image : Image) where
@@ -22,10 +23,12 @@ module _ (image : Image) where
       cc
 
   -- the entry of row j over slot i is written
-  pub stored_step : (s : Slots) (R : ℕ) (t : Table) (i j : ℕ) (v : Option Value) → length s ≤ 2 ^ R → 2 ^ (R + 1) ≤ length t
+  pub stored_step : (s : Slots) (R : ℕ) (t : Table) (i j : ℕ) (v : Option Value) → Fitting (length s) R (length t)
       → StoredBut image s R t i j → i / 2 ^ j < length s / 2 ^ j → v ≡ value_over image s j (i / 2 ^ j)
       → StoredBut image s R (set t (index R j (i / 2 ^ j)) v) i (j + 1)
-  stored_step s R t i j v top room was h e r o g ok =
+  stored_step s R t i j v fit was h e r o g ok =
+      let top = fit.high in
+      let room = fit.room in
       let p : ℕ = i / 2 ^ j in
       let here = indexed (length s) R j p top h in
       let there = indexed (length s) R r o top g in
@@ -76,7 +79,7 @@ module _ (image : Image) where
       sym (get_or_append_left s (x ∷ []) None k (⊎_elim (λ (l : k < n). l) (λ (l : n ≤ k). absurd (let m = shr_mono r l in omega arith)) (cases_lt k n))))
 
   -- slots are dropped from the end
-  pub stored_take : (s : Slots) (R : ℕ) (t : Table) (m : ℕ) → m ≤ length s → Stored image s R t → Stored image (take m s) R t
+  stored_take : (s : Slots) (R : ℕ) (t : Table) (m : ℕ) → m ≤ length s → Stored image s R t → Stored image (take m s) R t
   stored_take s R t m h was r o g =
       let size : length (take m s) ≡ m = simp length-take (omega arith) in
       let g' : o < m / 2 ^ r = subst (λ z. o < z / 2 ^ r) size g in
@@ -84,17 +87,41 @@ module _ (image : Image) where
       ∙ value_local s (take m s) r o (λ k e.
       sym (get_or-take m s k None (⊎_elim (λ (l : k < m). l) (λ (l : m ≤ k). absurd (let a = shr_mono r l in omega arith)) (cases_lt k m))))
 
-  -- The same of slots s' and a table t' that are known to be equal to such ----------------
+  -- What the calls of the keeper keep: from slots s and table T to slots t and table U ----
 
-  pub set_stored : (s s' : Slots) (R : ℕ) (t t' : Table) (i : ℕ) (x : Option Coin) → s' ≡ set s i x → t' ≡ t → Stored image s R t → StoredBut image s' R t' i 0
-  set_stored s s' R t t' i x e f was = subst (λ y. StoredBut image y R t' i 0) (sym e) (subst (λ y. StoredBut image (set s i x) R y i 0) (sym f) (stored_set s R t i x was))
+  pub set_kept : (s t : Slots) (T : Table) (i : ℕ) (x : Option Coin) → t ≡ set s i x → AtPositions image s T → StoredBut image t (rows (length t)) T i 0
+  set_kept s t T i x e was =
+      let n : length t ≡ length s = ap length e ∙ length-set s i x in
+      subst (λ k. StoredBut image t (rows k) T i 0) (sym n) (subst (λ y. StoredBut image y (rows (length s)) T i 0) (sym e) (stored_set s (rows (length s)) T i x was))
 
-  pub push_stored : (s s' : Slots) (R : ℕ) (t t' : Table) (i : ℕ) (x : Option Coin) → i ≡ length s → s' ≡ s ++ (x ∷ []) → t' ≡ t → Stored image s R t → StoredBut image s' R t' i 0
-  push_stored s s' R t t' i x z e f was =
-      subst (λ y. StoredBut image s' R t' y 0) (sym z)
-      (subst (λ y. StoredBut image y R t' (length s) 0) (sym e) (subst (λ y. StoredBut image (s ++ (x ∷ [])) R y (length s) 0) (sym f) (stored_push s R t x was)))
+  -- a table that is laid anew, read and written through a slice
+  laid_kept : (s : Slots) (T T' U U' : Table) (m a b : ℕ) → T' ≡ T → U' ≡ U → m ≡ length s → Laid m (rows a) (rows b) T' U → Stored image s (rows a) T → Stored image s (rows b) U'
+  laid_kept s T T' U U' m a b e f l laid was r o g =
+      ap (λ y. get_or y (index (rows b) r o) None) f ∙ laid r o (subst (λ x. o < x / 2 ^ r) (sym l) g) ∙ ap (λ y. get_or y (index (rows a) r o) None) e ∙ was r o g
 
-  -- a table that is laid anew
-  pub laid_stored : (s : Slots) (n R Q : ℕ) (t t' u : Table) → n ≡ length s → t' ≡ t → Stored image s R t → Laid n R Q t' u → Stored image s Q u
-  laid_stored s n R Q t t' u e f was l r o g =
-      subst (λ x. Laid (length s) R Q x u) f (subst (λ x. Laid x R Q t' u) e l) r o g ∙ was r o g
+  pub push_kept : (s t : Slots) (T T' U U' : Table) (n : ℕ) (x : Option Coin) → n ≡ length s → t ≡ s ++ (x ∷ []) → T' ≡ T → U' ≡ U
+      → Laid (min n (n + 1)) (rows n) (rows (n + 1)) T' U → AtPositions image s T → StoredBut image t (rows (length t)) U' n 0
+  push_kept s t T T' U U' n x z e f h laid was =
+      let size : length t ≡ n + 1 = simp (e, length-append) (omega arith) in
+      let a : Stored image s (rows n) T = subst (λ k. Stored image s (rows k) T) (sym z) was in
+      let b = laid_kept s T T' U U' (min n (n + 1)) n (n + 1) f h (omega arith) laid a in
+      let d = stored_push s (rows (n + 1)) U' x b in
+      subst (λ k. StoredBut image t (rows k) U' n 0) (sym size)
+      (subst (λ y. StoredBut image y (rows (n + 1)) U' n 0) (sym e) (subst (λ k. StoredBut image (s ++ (x ∷ [])) (rows (n + 1)) U' k 0) (sym z) d))
+
+  pub cut_kept : (s t : Slots) (T T' U U' : Table) (n : ℕ) → 0 < length s → n ≡ length t → t ≡ take (length s - 1) s → T' ≡ T → U' ≡ U
+      → Laid (min (n + 1) n) (rows (n + 1)) (rows n) T' U → AtPositions image s T → AtPositions image t U'
+  cut_kept s t T T' U U' n pos z e f h laid was =
+      let m : ℕ = length s - 1 in
+      let size : length t ≡ m = ap length e ∙ simp length-take (omega arith) in
+      let up : length s ≡ n + 1 = omega arith in
+      let a : Stored image s (rows (n + 1)) T = subst (λ k. Stored image s (rows k) T) up was in
+      let b : Stored image t (rows (n + 1)) T = subst (λ y. Stored image y (rows (n + 1)) T) (sym e) (stored_take s (rows (n + 1)) T m (omega arith) a) in
+      subst (λ k. Stored image t (rows k) U') z (laid_kept t T T' U U' (min (n + 1) n) (n + 1) n f h (omega arith) laid b)
+
+  -- what is said of the slots and the table through slices
+  pub updated : (s s' : Slots) (T T' U U' : Table) (i : ℕ) → s' ≡ s → T' ≡ T → U' ≡ U → (StoredBut image s' (rows (length s')) T' i 0 → AtPositions image s' U)
+      → StoredBut image s (rows (length s)) T i 0 → AtPositions image s U'
+  updated s s' T T' U U' i e f h all =
+      let P : Slots → Table → Table → Type 0 = λ x y z. StoredBut image x (rows (length x)) y i 0 → AtPositions image x z in
+      subst (λ x. P x T U') e (subst (λ y. P s' y U') f (subst (λ z. P s' T' z) (sym h) all))

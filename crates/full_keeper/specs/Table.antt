@@ -11,11 +11,7 @@ Table = List (Option Value)
 abbrev pub AtPositions : Image → Slots → Table → Type 0
 AtPositions image s t = (r o : ℕ) → o < length s / 2 ^ r → slice_index_or t (position (length s) r o) None ≡ value_over image s r o
 
--- The same by R, which the code keeps beside the table -------------------------------------
-
--- R is the least number with n ≤ 2 ^ R
-abbrev pub Least : ℕ → ℕ → Type 0
-Least n R = (n ≤ 2 ^ R) × ((k : ℕ) → n ≤ 2 ^ k → R ≤ k)
+-- The same by R -------------------------------------------------------------------------
 
 -- the position of place o of row r, with R rows above the slots
 abbrev pub index : ℕ → ℕ → ℕ → ℕ
@@ -28,12 +24,6 @@ Stored image s R t = (r o : ℕ) → o < length s / 2 ^ r → slice_index_or t (
 abbrev pub StoredBut : Image → Slots → ℕ → Table → ℕ → ℕ → Type 0
 StoredBut image s R t i j =
     (r o : ℕ) → o < length s / 2 ^ r → (j ≤ r → i / 2 ^ r ≢ o) → slice_index_or t (index R r o) None ≡ value_over image s r o
-
--- w entries of t are copied, and the others are left
-pub record Copied (t u : Table) (from to w : ℕ) : Type 0 where
-  pub hit : (o : ℕ) → o < w → slice_index_or u (to + o) None ≡ slice_index_or t (from + o) None
-  pub before : (k : ℕ) → k < to → slice_index_or u k None ≡ slice_index_or t k None
-  pub after : (k : ℕ) → to + w ≤ k → slice_index_or u k None ≡ slice_index_or t k None
 
 -- the entries of n slots that t has by R, u has by Q
 abbrev pub Laid : ℕ → ℕ → ℕ → Table → Table → Type 0

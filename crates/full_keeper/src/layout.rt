@@ -1,44 +1,45 @@
 // Where the values stand in the table, and how those over one slot are worked out anew.
 ghost use Rattle.std.specs.Prelude.{◌≡◌, ℕ, ◌+◌, ◌^◌, ◌<◌, ◌≤◌, length};
-ghost use Rattle.full_keeper.specs.Table.{index, Stored, StoredBut};
+ghost use Rattle.utreexo.specs.Forest.{rows as rows_of};
+ghost use Rattle.full_keeper.specs.Table.{index, AtPositions, StoredBut};
 
 use compression::{Compression, join};
-use keeper::run::leaf_value;
+use keeper::run::{Run, leaf_value};
 use utreexo::types::{Coin, Value};
 
 // Where the value over a run stands, with `rows` rows above the slots.
-pub(crate) fn index_of(rows: u8, row: u8, place: usize) -> usize
-    requires { (rows ≤ 32) × ((row ≤ rows) × (place < 2 ^ 33)) }
-    ensures { result ≡ index rows row place }
+pub(crate) fn index_of(rows: u8, run: Run) -> usize
+    requires { (rows ≤ 32) × ((run.row ≤ rows) × (run.place < 2 ^ 33)) }
+    ensures { result ≡ index rows run.row run.place }
 {
-    (2usize << rows) - (2usize << (rows - row)) + place
+    (2usize << rows) - (2usize << (rows - run.row)) + run.place as usize
 }
 
 // Works out the value over each run that holds the slot, from below, up to the first row where that run passes the count.
 pub(crate) fn update_path<C: Compression>(
     table: &mut [Option<Value>],
-    rows: u8,
-    coins: &[Option<Coin>],
+    slots: &[Option<Coin>],
     slot: usize,
 )
-    requires slot { slot < length coins.now }
-    requires high { length coins.now ≤ 2 ^ rows }
-    requires low { rows ≤ 32 }
-    requires room { 2 ^ (rows + 1) ≤ length table.old }
-    ensures { StoredBut C.Compression.image coins.now rows table.old slot 0 → Stored C.Compression.image coins.now rows table.new }
+    requires slot { slot < length slots.now }
+    requires few { length slots.now < 2 ^ 32 }
+    requires room { 2 ^ (rows_of (length slots.now) + 1) ≤ length table.old }
+    ensures { StoredBut C.Compression.image slots.now (rows_of (length slots.now)) table.old slot 0 → AtPositions C.Compression.image slots.now table.new }
 {
-    table[slot] = leaf_value::<C>(coins[slot]);
-    let mut row = 1u8;
-    let mut place = slot / 2;
-    let mut runs = coins.len() / 2;
-    while place < runs {
-        let below = index_of(rows, row - 1, 2 * place);
-        let left = table[below];
-        let right = table[below + 1];
-        let at = index_of(rows, row, place);
-        table[at] = join::<C>(left, right);
-        row += 1;
-        place /= 2;
-        runs /= 2;
+    let count = slots.len() as u32;
+    let rows = place::rows(count);
+    table[slot] = leaf_value::<C>(slots[slot]);
+    for row in 1..=rows {
+        let run = Run {
+            row,
+            place: (slot >> row) as u64,
+        };
+        if !run.is_within(count) {
+            break;
+        }
+        let (left, right) = run.halves();
+        let left = table[index_of(rows, left)];
+        let right = table[index_of(rows, right)];
+        table[index_of(rows, run)] = join::<C>(left, right);
     }
 }

@@ -4,159 +4,111 @@
 mod layout;
 mod relay;
 
-ghost use Rattle.std.specs.Prelude.{◌≡◌, ℕ, ◌+◌, ◌^◌, ◌<◌, ◌≤◌, [], length, IfOk, vec_len, vec_capacity, slice_set};
-ghost use Rattle.full_keeper.specs.Table.{Least, AtPositions};
+ghost use Rattle.std.specs.Prelude.{◌≡◌, ℕ, ◌+◌, ◌^◌, ◌<◌, ◌≤◌, [], length, IfOk, vec_len};
+ghost use Rattle.utreexo.specs.Forest.{rows as rows_of};
+ghost use Rattle.full_keeper.specs.Table.{AtPositions, StoredBut};
 ghost use Rattle.std.proofs.Common.{rules};
 
 use crate::layout::*;
-use crate::relay::*;
+use crate::relay::relay;
 use compression::Compression;
 use keeper::Keeper;
+use keeper::bare::Bare;
 use keeper::run::Run;
 use refusal::Refusal;
 use std::alloc::{AllocError, Global};
-use std::marker::PhantomData;
 use utreexo::types::{Coin, Slot, Value};
 
-// The table is numbered as positions are: `rows` is the R of the count, `top` that of the capacity. It has its full length from the
-// start, so that no call but `new` allocates.
+// The table is numbered as positions are, with the R of the count, which is worked out when it is needed. The table has its full
+// length from the start, so that no call but `new` allocates.
 #[derive(Drop)]
 pub struct Full<C: Compression> {
-    coins: Vec<Option<Coin>>,
-    limit: u32,
-    top: u8,
-    rows: u8,
+    bare: Bare<C>,
     table: Vec<Option<Value>>,
-    compression: PhantomData<C>,
-    ghost fits: { vec_len coins ≤ limit },
-    ghost small: { limit < 2 ^ 32 },
-    ghost reserved: { limit ≤ vec_capacity coins },
-    ghost high: { Least limit top },
-    ghost least: { Least (vec_len coins) rows },
-    ghost room: { vec_len table ≡ 2 ^ (top + 1) },
+    ghost room: { 2 ^ (rows_of bare.limit + 1) ≤ vec_len table },
 }
 
 impl<C: Compression> Full<C> {
     // Reserves all the memory that it will use, and fails if there is not so much.
     pub fn new(heap: Global, capacity: u32) -> Result<Full<C>, AllocError>
-        ensures made { IfOk result (λ m. (m.coins.items ≡ []) × (m.limit ≡ capacity)) }
-        ensures sound { IfOk result (λ m. AtPositions C.Compression.image m.coins.items m.table.items) }
+        ensures made { IfOk result (λ m. (m.bare.coins.items ≡ []) × (m.bare.limit ≡ capacity)) }
+        ensures sound { IfOk result (λ m. AtPositions C.Compression.image m.bare.coins.items m.table.items) }
     {
-        let top = place::rows(capacity);
-        let coins = Vec::with_capacity(heap, capacity as usize)?;
-        let table = vec![in heap; None; 2usize << top]?;
-        Ok(Full {
-            coins,
-            limit: capacity,
-            top,
-            rows: 0,
-            table,
-            compression: PhantomData,
-        })
+        let bare = Bare::new(heap, capacity)?;
+        let table = vec![in heap; None; 2usize << place::rows(capacity)]?;
+        Ok(Full { bare, table })
     }
 
-    // Writes a slot, and the value over each run that holds it.
-    fn put(&mut self, at: usize, coin: Option<Coin>)
-        requires { at < vec_len self.old.coins }
-        ensures after { self.new.coins.items ≡ slice_set self.old.coins.items at coin }
-        ensures same { self.new.limit ≡ self.old.limit }
-        ensures kept { AtPositions C.Compression.image self.old.coins.items self.old.table.items → AtPositions C.Compression.image self.new.coins.items self.new.table.items }
+    // Works out the value over each run that holds the slot.
+    fn update(&mut self, slot: Slot)
+        requires { slot.number < length self.old.bare.coins.items }
+        ensures same { self.new.bare ≡ self.old.bare }
+        ensures kept { StoredBut C.Compression.image self.old.bare.coins.items (rows_of (length self.old.bare.coins.items)) self.old.table.items slot.number 0 → AtPositions C.Compression.image self.new.bare.coins.items self.new.table.items }
     {
-        self.coins[at] = coin;
         update_path::<C>(
             self.table.as_mut_slice(),
-            self.rows,
-            self.coins.as_slice(),
-            at,
+            self.bare.slots(),
+            slot.number as usize,
         );
     }
 }
 
 impl<C: Compression> Keeper<C> for Full<C> {
-    ghost slots = { λ m. m.coins.items };
+    ghost slots = { λ m. m.bare.coins.items };
 
-    ghost limit = { λ m. m.limit };
+    ghost limit = { λ m. m.bare.limit };
 
-    ghost sound = { λ m. AtPositions C.Compression.image m.coins.items m.table.items };
+    ghost sound = { λ m. AtPositions C.Compression.image m.bare.coins.items m.table.items };
 
     ghost fits = { Prim.search rules };
 
     ghost small = { Prim.search rules };
 
     fn count(&self) -> u32 {
-        self.coins.len() as u32
+        self.bare.count()
     }
 
     fn capacity(&self) -> u32 {
-        self.limit
+        self.bare.capacity()
     }
 
     fn coin(&self, slot: Slot) -> Result<Option<Coin>, Refusal> {
-        let at = slot.number as usize;
-        if at >= self.coins.len() {
-            return Err(Refusal::NotFound);
-        }
-        Ok(self.coins[at])
+        self.bare.coin(slot)
     }
 
     fn value(&self, run: Run) -> Result<Option<Value>, Refusal> {
-        if !run.is_within(self.count()) {
+        let count = self.count();
+        if !run.is_within(count) {
             return Err(Refusal::NotFound);
         }
-        let at = index_of(self.rows, run.row, run.place as usize);
-        Ok(self.table[at])
+        Ok(self.table[index_of(place::rows(count), run)])
     }
 
     fn append(&mut self, coin: Coin) -> Result<(), Refusal> {
-        let count = self.coins.len();
-        if count >= self.limit as usize {
-            return Err(Refusal::OverCapacity);
-        }
-        let rows = grow(self.table.as_mut_slice(), self.rows, count);
-        self.rows = rows;
-        self.coins.push_reserved(Some(coin));
-        update_path::<C>(
-            self.table.as_mut_slice(),
-            rows,
-            self.coins.as_slice(),
-            count,
-        );
+        let count = self.count();
+        self.bare.append(coin)?;
+        relay(self.table.as_mut_slice(), count, count + 1);
+        self.update(Slot { number: count });
         Ok(())
     }
 
     fn blank(&mut self, slot: Slot) -> Result<(), Refusal> {
-        let at = slot.number as usize;
-        if at >= self.coins.len() {
-            return Err(Refusal::NotFound);
-        }
-        if self.coins[at].is_none() {
-            return Err(Refusal::NotFound);
-        }
-        self.put(at, None);
+        self.bare.blank(slot)?;
+        self.update(slot);
         Ok(())
     }
 
     fn refill(&mut self, slot: Slot, coin: Coin) -> Result<(), Refusal> {
-        let at = slot.number as usize;
-        if at >= self.coins.len() {
-            return Err(Refusal::NotFound);
-        }
-        if self.coins[at].is_some() {
-            return Err(Refusal::NotFound);
-        }
-        self.put(at, Some(coin));
+        self.bare.refill(slot, coin)?;
+        self.update(slot);
         Ok(())
     }
 
-    // Writes no entry: those over the last slot are within the count no more.
+    // The values over the last slot stay in the table: their runs are within the count no more.
     fn cut(&mut self) -> Result<(), Refusal> {
-        let count = self.coins.len();
-        if count == 0 {
-            return Err(Refusal::NotFound);
-        }
-        let rows = shrink(self.table.as_mut_slice(), self.rows, count - 1);
-        self.rows = rows;
-        self.coins.truncate(count - 1);
+        self.bare.cut()?;
+        let count = self.count();
+        relay(self.table.as_mut_slice(), count + 1, count);
         Ok(())
     }
 }

@@ -1,7 +1,7 @@
 -- Runs within a count, and the values over them.
-use Rattle.std.proofs.Common.{◌≡◌, ℕ, zero, suc, ◌+◌, ◌-◌, ◌*◌, ◌/◌, ◌^◌, ◌<◌, ◌≤◌, false, ltb, sym, ap, ◌∙◌, ⊎_elim, mul-le-mul_right, div-mul-le_self, arith, pow_pos, pow_mono, shr-shr}
+use Rattle.std.proofs.Common.{◌≡◌, ℕ, zero, suc, ◌+◌, ◌-◌, ◌*◌, ◌/◌, ◌^◌, ◌<◌, ◌≤◌, true, false, ltb, sym, ap, ◌∙◌, ⊎_elim, mul-le-mul_right, div-mul-le_self, arith, pow_pos, pow_mono, shr-shr}
 use Rattle.std.proofs.lemmas.Nat.{le-div}
-use Rattle.std.proofs.lemmas.Bool.{cases_lt, lt-ltb, le-ltb, le-leb, lt-leb}
+use Rattle.std.proofs.lemmas.Bool.{cases_lt, lt-ltb, le-ltb, le-leb, lt-leb, ltb-true, ltb-false}
 use Rattle.utreexo.specs.Values.{Image, join}
 use Rattle.utreexo.specs.Forest.{Slots, value_over}
 use Rattle.keeper.specs.Calls.{run_within}
@@ -31,6 +31,12 @@ run_test n r o =
     ⊎_elim (λ (h : o < n / 2 ^ r). lt-ltb o (n / 2 ^ r) h ∙ sym (le-leb ((o + 1) * 2 ^ r) n (run_out n r o h)))
     (λ (h : n / 2 ^ r ≤ o). le-ltb o (n / 2 ^ r) h ∙ sym (lt-leb ((o + 1) * 2 ^ r) n (run_past n r o h)))
     (cases_lt o (n / 2 ^ r))
+
+pub run_true : (n r o : ℕ) → true ≡ run_within n r o → o < n / 2 ^ r
+run_true n r o h = ltb-true o (n / 2 ^ r) (run_test n r o ∙ sym h)
+
+pub run_false : (n r o : ℕ) → false ≡ run_within n r o → n / 2 ^ r ≤ o
+run_false n r o h = ltb-false o (n / 2 ^ r) (run_test n r o ∙ sym h)
 
 -- no run of 2 ^ 32 slots and more is
 pub far_test : (n r o : ℕ) → n < 2 ^ 32 → 32 ≤ r → false ≡ run_within n r o

@@ -15,6 +15,7 @@ use utreexo::types::{Coin, Slot, Value};
 
 // A keeper means a list of slots and a capacity, the most slots that it can have, which never changes. Its values are under one
 // compression.
+// `same` and `kept` stand in each change: they compare two states of a keeper, which no invariant can, and one name for both is no plainer.
 pub trait Keeper<C: Compression> {
     ghost slots: { Self → Slots };
 

@@ -6,7 +6,7 @@ ghost use Rattle.keeper.specs.Calls.{run_within};
 use compression::Compression;
 use utreexo::types::{Coin, Value};
 
-// Any numbers may be asked for.
+// Any numbers may be asked for, so the place is wider than that of a node of the forest, and no invariant binds the two.
 #[derive(Clone, Copy, PartialEq, Eq, Debug)]
 pub struct Run {
     pub row: u8,
@@ -24,8 +24,8 @@ impl Run {
     // The left half of a run, and the right one.
     pub fn halves(self) -> (Run, Run)
         requires { (0 < self.row) × (self.place < 2 ^ 63) }
-        ensures rows { (result.0.row ≡ self.row - 1) × (result.1.row ≡ self.row - 1) }
-        ensures places { (result.0.place ≡ 2 * self.place) × (result.1.place ≡ 2 * self.place + 1) }
+        ensures left { result.0 ≡ record { row = self.row - 1; place = 2 * self.place } }
+        ensures right { result.1 ≡ record { row = self.row - 1; place = 2 * self.place + 1 } }
     {
         let row = self.row - 1;
         let place = 2 * self.place;

@@ -1,43 +1,75 @@
-use Rattle.std.proofs.Common.{length, set, arith, length-set, pow_mono}
-use Rattle.place.proofs.Powers.{pow_next}
+use Rattle.std.proofs.Common.{◌+◌, ◌/◌, ◌^◌, length, arith, length-set}
+use Rattle.keeper.proofs.Runs.{run_true, run_false}
+use Rattle.full_keeper.proofs.Rows.{fitting}
 use Rattle.full_keeper.proofs.Indices.{reach}
-use Rattle.full_keeper.proofs.Paths.{stored_leaf, updating_none, updating_node, updating_all}
+use Rattle.full_keeper.proofs.Paths.{stored_leaf, stored_node, stored_rest, stored_top}
 use Rattle.full_keeper.proofs.layout.update_path.Goals as goal
 
-pub bounds-table-slot : goal.bounds-table-slot
-bounds-table-slot g c = omega (arith, pow_next c.args.rows)
-
-pub loop-place-init : goal.loop-place-init
-loop-place-init g c =
-    updating_none g.C.Compression.image c.args.coins.now c.args.rows (set c.args.table.now c.args.slot c.leaf_value.result) c.args.slot (simp length-set c.requires.room)
+pub loop-row-init : goal.loop-row-init
+loop-row-init g c =
+    let s = c.args.slots.now in
+    let t = c.args.table.now in
+    let R = c.rows-rows.result in
+    let f = fitting (length s) (length s) R (length t) (omega arith) c.requires.few c.rows-rows.ensures.value c.requires.room in
+    record {
+      fit = simp length-set f;
+      stored = stored_leaf g.C.Compression.image s R t c.args.slot c.leaf_value.result f c.requires.slot c.leaf_value.ensures;
+    }
 
 pub slice_copy_out-left : goal.slice_copy_out-left
 slice_copy_out-left g c =
-    let q = reach (length c.args.coins.now) c.args.rows c.loop-place.row c.loop-place.place (length c.loop-place.table) c.requires.high c.loop-place.invariant.room c.loop-place.invariant.pos (omega arith) in
-    omega (arith, q.below)
+    let n = length c.args.slots.now in
+    let r = c.loop-row.row in
+    let o = c.args.slot / 2 ^ r in
+    let q = reach n c.rows-rows.result r o (length c.loop-row.table) c.loop-row.invariant.fit (omega arith) (run_true n r o c.if-not-is_within.ensures) in
+    rw (c.index_of.ensures, c.halves.ensures.left) q.left
 
 pub slice_copy_out-right : goal.slice_copy_out-right
 slice_copy_out-right g c =
-    let q = reach (length c.args.coins.now) c.args.rows c.loop-place.row c.loop-place.place (length c.loop-place.table) c.requires.high c.loop-place.invariant.room c.loop-place.invariant.pos (omega arith) in
-    omega (arith, q.below)
+    let n = length c.args.slots.now in
+    let r = c.loop-row.row in
+    let o = c.args.slot / 2 ^ r in
+    let q = reach n c.rows-rows.result r o (length c.loop-row.table) c.loop-row.invariant.fit (omega arith) (run_true n r o c.if-not-is_within.ensures) in
+    rw (c.index_of-in-loop-row.ensures, c.halves.ensures.right) q.right
 
-pub index_of-at-requires : goal.index_of-at-requires
-index_of-at-requires g c =
-    let q = reach (length c.args.coins.now) c.args.rows c.loop-place.row c.loop-place.place (length c.loop-place.table) c.requires.high c.loop-place.invariant.room c.loop-place.invariant.pos (omega arith) in
-    (omega arith, (q.row, omega (arith, q.place, pow_mono {i = c.args.rows} {j = 32} c.requires.low)))
+pub bounds-table-index_of : goal.bounds-table-index_of
+bounds-table-index_of g c =
+    let n = length c.args.slots.now in
+    let r = c.loop-row.row in
+    let o = c.args.slot / 2 ^ r in
+    let q = reach n c.rows-rows.result r o (length c.loop-row.table) c.loop-row.invariant.fit (omega arith) (run_true n r o c.if-not-is_within.ensures) in
+    rw c.index_of-in-loop-row-2.ensures q.here
 
-pub bounds-table-at : goal.bounds-table-at
-bounds-table-at g c =
-    let q = reach (length c.args.coins.now) c.args.rows c.loop-place.row c.loop-place.place (length c.loop-place.table) c.requires.high c.loop-place.invariant.room c.loop-place.invariant.pos (omega arith) in
-    omega (arith, q.here)
-
-pub loop-place-preserved : goal.loop-place-preserved
-loop-place-preserved g c =
-    updating_node g.C.Compression.image c.args.coins.now c.args.rows _ c.loop-place.table c.args.slot c.requires.high c.loop-place.row c.loop-place.place c.loop-place.runs c.loop-place.invariant
-    c.loop-place-test.true c.index_of-below.result c.index_of-at.result c.join.result c.index_of-below.ensures c.index_of-at.ensures c.join.ensures
+pub loop-row-preserved : goal.loop-row-preserved
+loop-row-preserved g c =
+    let s = c.args.slots.now in
+    let r = c.loop-row.row in
+    record {
+      fit = simp length-set c.loop-row.invariant.fit;
+      stored = λ was.
+          stored_node g.C.Compression.image s c.rows-rows.result c.loop-row.table c.args.slot c.join.result c.loop-row.invariant.fit r _ _ _ (omega arith)
+          (run_true (length s) r (c.args.slot / 2 ^ r) c.if-not-is_within.ensures) c.halves.ensures.left c.halves.ensures.right c.index_of.ensures c.index_of-in-loop-row.ensures
+          c.index_of-in-loop-row-2.ensures c.join.ensures (c.loop-row.invariant.stored was);
+    }
 
 pub returns : goal.returns
-returns g c = λ was.
-    updating_all g.C.Compression.image c.args.coins.now c.args.rows _ c.loop-place.table c.args.slot c.requires.high c.loop-place.row c.loop-place.place c.loop-place.runs c.loop-place.invariant
-    c.loop-place-test.false
-    (stored_leaf g.C.Compression.image c.args.coins.now c.args.rows c.args.table.now c.args.slot c.leaf_value.result c.requires.high c.requires.room c.requires.slot c.leaf_value.ensures was)
+returns g c =
+    stored_top g.C.Compression.image c.args.slots.now c.rows-rows.result c.args.table.now c.loop-row.table c.args.slot c.loop-row.row c.rows-rows.ensures.value c.loop-row.invariant.stored
+    c.loop-row.invariant.fit.high (omega arith)
+
+pub returns-then-not-is_within : goal.returns-then-not-is_within
+returns-then-not-is_within g c =
+    let s = c.args.slots.now in
+    let r = c.loop-row.row in
+    stored_rest g.C.Compression.image s c.rows-rows.result c.args.table.now c.loop-row.table c.args.slot r c.rows-rows.ensures.value c.loop-row.invariant.stored
+    (run_false (length s) r (c.args.slot / 2 ^ r) c.if-not-is_within.ensures)
+
+pub returns-else-not-is_within : goal.returns-else-not-is_within
+returns-else-not-is_within g c =
+    let s = c.args.slots.now in
+    let r = c.loop-row.row in
+    stored_top g.C.Compression.image s c.rows-rows.result c.args.table.now _ c.args.slot (r + 1) c.rows-rows.ensures.value
+    (λ was.
+    stored_node g.C.Compression.image s c.rows-rows.result c.loop-row.table c.args.slot c.join.result c.loop-row.invariant.fit r _ _ _ (omega arith)
+    (run_true (length s) r (c.args.slot / 2 ^ r) c.if-not-is_within.ensures) c.halves.ensures.left c.halves.ensures.right c.index_of.ensures c.index_of-in-loop-row.ensures
+    c.index_of-in-loop-row-2.ensures c.join.ensures (c.loop-row.invariant.stored was)) c.loop-row.invariant.fit.high (omega arith)
