@@ -1,13 +1,11 @@
 -- Where runs stand in a table.
-use Rattle.std.proofs.Common.{◌≡◌, ℕ, ◌+◌, ◌-◌, ◌*◌, ◌/◌, ◌^◌, ◌<◌, ◌≤◌, sym, refl, ap, ◌∙◌, subst, arith, pow_mono}
-use Rattle.utreexo.specs.Forest.{rows}
+use Rattle.std.proofs.Common.{◌≡◌, ℕ, ◌+◌, ◌-◌, ◌*◌, ◌/◌, ◌^◌, ◌<◌, ◌≤◌, sym, ap, ◌∙◌, subst, arith, pow_mono}
 use Rattle.laws.proofs.Places.{up_shr}
 use Rattle.laws.proofs.Positions.{in_rows}
 use Rattle.place.proofs.Powers.{pow_next, length_once}
 use Rattle.place.proofs.Numbers.{Numbered}
-use Rattle.keeper.proofs.Runs.{halves}
 use Rattle.full_keeper.specs.Table.{index}
-use Rattle.full_keeper.proofs.Rows.{Fitting, fitting, room}
+use Rattle.full_keeper.proofs.Rows.{Fitting}
 
 -- place o of row r, d rows below the top
 abbrev pub Indexed : ℕ → ℕ → ℕ → ℕ → Type 0
@@ -26,7 +24,7 @@ indexed n R r o top h =
     let (l, small) = in_rows r R o n top (subst (λ x. o < x) (sym (up_shr r n)) h) in
     (R - r, record { depth = omega arith; small = small; wide = pow_mono {i = R - r} {j = R} (omega arith); sum = index_sum R r (R - r) o (omega arith) })
 
-pub index_in : (R r o d : ℕ) → Indexed R r o d → index R r o < 2 ^ (R + 1)
+index_in : (R r o d : ℕ) → Indexed R r o d → index R r o < 2 ^ (R + 1)
 index_in R r o d a = let x = a.sum in let i = a.small in let u = a.wide in omega (arith, pow_next R)
 
 -- and no other stands there
@@ -48,35 +46,14 @@ index_once R r o d s q e a b same =
 pub index_0 : (R o : ℕ) → index R 0 o ≡ o
 index_0 R o = let e = index_sum R 0 R o (omega arith) in omega arith
 
--- a run within n, and its halves, stand in the table
-pub record Reach (n R r o len : ℕ) : Type 0 where
-  pub row : r ≤ R
-  pub here : index R r o < len
-  pub left : index R (r - 1) (2 * o) < len
-  pub right : index R (r - 1) (2 * o + 1) < len
+-- a run within n has its entry in a table with room for n slots
+pub has_entry : (n R r o len : ℕ) → Fitting n R len → o < n / 2 ^ r → index R r o < len
+has_entry n R r o len f h = let m = f.room in let a = indexed n R r o f.high h in omega (arith, index_in R r o a.0 a.1)
 
-pub reach : (n R r o len : ℕ) → Fitting n R len → 0 < r → o < n / 2 ^ r → Reach n R r o len
-reach n R r o len f pos h =
-    let room = f.room in
-    let a = indexed n R r o f.high h in
-    let b = indexed n R (r - 1) (2 * o + 1) f.high (halves n r o pos h) in
-    let x = index_in R r o a.0 a.1 in
-    let y = index_in R (r - 1) (2 * o + 1) b.0 b.1 in
-    let z = a.1.depth in
-    record { row = omega arith; here = omega arith; left = omega arith; right = omega arith }
-
--- what reading the value over a run within the count takes
-pub record Readable (R r o len : ℕ) : Type 0 where
-  pub row : r ≤ R
-  pub place : o < 2 ^ 33
-  pub here : index R r o < len
-
-pub readable : (n l R r o len : ℕ) → n ≤ l → l < 2 ^ 32 → R ≡ rows n → R ≤ 32 → 2 ^ (rows l + 1) ≤ len → o < n / 2 ^ r → Readable R r o len
-readable n l R r o len h g e low top i =
-    let f = fitting n n R len (omega arith) (omega arith) e (room n l len len h g refl top) in
-    let a = indexed n R r o f.high i in
+pub in_row : (n R r o : ℕ) → n ≤ 2 ^ R → R ≤ 32 → o < n / 2 ^ r → (r ≤ R) × (o < 2 ^ 33)
+in_row n R r o top low h =
+    let a = indexed n R r o top h in
     let d = a.1.depth in
     let s = a.1.small in
     let w = a.1.wide in
-    let m = f.room in
-    record { row = omega arith; place = omega (arith, pow_mono {i = R} {j = 32} low); here = omega (arith, index_in R r o a.0 a.1) }
+    (omega arith, omega (arith, pow_mono {i = R} {j = 32} low))

@@ -11,7 +11,7 @@ use Rattle.utreexo.specs.Forest.{Slots, leaf_value, value_over, rows}
 use Rattle.keeper.proofs.Runs.{run_up, run_out}
 use Rattle.full_keeper.specs.Table.{Table, index, AtPositions, Stored, StoredBut, Laid}
 use Rattle.full_keeper.proofs.Rows.{Fitting}
-use Rattle.full_keeper.proofs.Indices.{indexed, index_once, index_in}
+use Rattle.full_keeper.proofs.Indices.{indexed, index_once, has_entry}
 
 module _ (image : Image) where
   -- a value is worked out from the slots of its run alone
@@ -28,11 +28,10 @@ module _ (image : Image) where
       → StoredBut image s R (set t (index R j (i / 2 ^ j)) v) i (j + 1)
   stored_step s R t i j v fit was h e r o g ok =
       let top = fit.high in
-      let room = fit.room in
       let p : ℕ = i / 2 ^ j in
       let here = indexed (length s) R j p top h in
       let there = indexed (length s) R r o top g in
-      let in_table = index_in R j p here.0 here.1 in
+      let in_table = has_entry (length s) R j p (length t) fit h in
       ⊎_elim
       (λ (same : index R r o ≡ index R j p).
       let q = index_once R r o there.0 j p here.0 there.1 here.1 same in

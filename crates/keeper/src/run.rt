@@ -38,7 +38,7 @@ impl Run {
     }
 }
 
-// The value over one slot.
+// The value over one slot. Tried: `coin.map(C::leaf)`, for which the check makes no proof yet (`leaf_value`).
 pub fn leaf_value<C: Compression>(coin: Option<Coin>) -> Option<Value>
     ensures { result ≡ leaf_value C.Compression.image coin }
 {

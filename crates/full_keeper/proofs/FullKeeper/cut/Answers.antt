@@ -4,6 +4,13 @@ use Rattle.full_keeper.proofs.Rows.{room}
 use Rattle.full_keeper.proofs.Values.{cut_kept}
 use Rattle.full_keeper.proofs.FullKeeper.cut.Goals as goal
 
+pub returns-clause-kept : goal.returns-clause-kept
+returns-clause-kept g c =
+    let m = c.args.self.now in
+    let z = c.in_ok-cut.ensures.after in
+    cut_kept g.C.Compression.image (vec_items m.bare.coins) _ (vec_items m.table) c.as_mut_slice.result.now c.relay.new.table _ c.count-count.result z.0 c.count-count.ensures z.1
+    c.as_mut_slice.ensures.value (with_items_is m.table c.relay.new.table (omega arith)) c.relay.ensures
+
 pub relay-requires : goal.relay-requires
 relay-requires g c =
     let m = c.args.self.now in
@@ -15,10 +22,3 @@ relay-requires g c =
     let size = length c.as_mut_slice.result.now in
     let e = c.as_mut_slice.ensures.len in
     (room (n + 1) m.bare.limit len size (omega arith) m.bare.small e m.room, room n m.bare.limit len size (omega arith) m.bare.small e m.room)
-
-pub returns-clause-kept : goal.returns-clause-kept
-returns-clause-kept g c =
-    let m = c.args.self.now in
-    let z = c.in_ok-cut.ensures.after in
-    cut_kept g.C.Compression.image (vec_items m.bare.coins) _ (vec_items m.table) c.as_mut_slice.result.now c.relay.new.table _ c.count-count.result z.0 c.count-count.ensures z.1
-    c.as_mut_slice.ensures.value (with_items_is m.table c.relay.new.table (omega arith)) c.relay.ensures

@@ -2,27 +2,29 @@ use Rattle.std.proofs.Common.{◌<◌, ◌/◌, ◌^◌, length, get_or, None, O
 use Rattle.std.proofs.lemmas.List.{get_or_read_under}
 use Rattle.std.proofs.lemmas.Bool.{cond-true}
 use Rattle.utreexo.specs.Forest.{rows}
+use Rattle.laws.proofs.Positions.{rows_ok}
 use Rattle.keeper.specs.Calls.{run_within}
 use Rattle.keeper.proofs.Runs.{run_true}
 use Rattle.full_keeper.specs.Table.{index}
-use Rattle.full_keeper.proofs.Indices.{readable}
+use Rattle.full_keeper.proofs.Rows.{fitting}
+use Rattle.full_keeper.proofs.Indices.{has_entry, in_row}
 use Rattle.full_keeper.proofs.FullKeeper.value.Goals as goal
 
 pub index_of-requires : goal.index_of-requires
 index_of-requires g c =
-    let m = c.args.self.now in
     let n = c.count-count.result in
-    let h = run_true n c.args.run.row c.args.run.place c.if-not-is_within.ensures in
-    let q = readable n m.bare.limit c.rows.result c.args.run.row c.args.run.place (vec_len m.table) (omega arith) m.bare.small c.rows.ensures.value c.rows.ensures.low m.room h in
-    (c.rows.ensures.low, (q.row, q.place))
+    let low = c.rows.ensures.low in (
+      low,
+      in_row n c.rows.result c.args.run.row c.args.run.place (rw c.rows.ensures.value (rows_ok n (omega arith))) low
+          (run_true n c.args.run.row c.args.run.place c.if-not-is_within.ensures),
+    )
 
 pub index-requires : goal.index-requires
 index-requires g c =
     let m = c.args.self.now in
     let n = c.count-count.result in
-    let h = run_true n c.args.run.row c.args.run.place c.if-not-is_within.ensures in
-    let q = readable n m.bare.limit c.rows.result c.args.run.row c.args.run.place (vec_len m.table) (omega arith) m.bare.small c.rows.ensures.value c.rows.ensures.low m.room h in
-    rw c.index_of.ensures q.here
+    let f = fitting n n m.bare.limit c.rows.result (vec_len m.table) (omega arith) (omega arith) m.bare.small c.rows.ensures.value m.room in
+    rw c.index_of.ensures (has_entry n c.rows.result c.args.run.row c.args.run.place _ f (run_true n c.args.run.row c.args.run.place c.if-not-is_within.ensures))
 
 pub returns-clause-answer : goal.returns-clause-answer
 returns-clause-answer g c = λ was.
@@ -33,8 +35,8 @@ returns-clause-answer g c = λ was.
     let row = c.args.run.row in
     let place = c.args.run.place in
     let h = run_true n row place c.if-not-is_within.ensures in
-    let q = readable n m.bare.limit c.rows.result row place (vec_len m.table) (omega arith) m.bare.small c.rows.ensures.value c.rows.ensures.low m.room h in
-    let here : c.index_of.result < vec_len m.table = rw c.index_of.ensures q.here in
+    let f = fitting n n m.bare.limit c.rows.result (vec_len m.table) (omega arith) (omega arith) m.bare.small c.rows.ensures.value m.room in
+    let here : c.index_of.result < vec_len m.table = rw c.index_of.ensures (has_entry n c.rows.result row place _ f h) in
     let R = c.rows.ensures.value ∙ ap rows c.count-count.ensures in
     ap Ok
     (get_or_read_under t c.index_of.result (vec_len m.table) c.index.result.now None c.index.ensures here m.table.ok.0

@@ -1,7 +1,7 @@
-use Rattle.std.proofs.Common.{◌+◌, ◌/◌, ◌^◌, length, arith, length-set}
-use Rattle.keeper.proofs.Runs.{run_true, run_false}
+use Rattle.std.proofs.Common.{ℕ, ◌+◌, ◌-◌, ◌*◌, ◌/◌, ◌^◌, length, arith, length-set}
+use Rattle.keeper.proofs.Runs.{halves, run_true, run_false}
 use Rattle.full_keeper.proofs.Rows.{fitting}
-use Rattle.full_keeper.proofs.Indices.{reach}
+use Rattle.full_keeper.proofs.Indices.{has_entry}
 use Rattle.full_keeper.proofs.Paths.{stored_leaf, stored_node, stored_rest, stored_top}
 use Rattle.full_keeper.proofs.layout.update_path.Goals as goal
 
@@ -10,7 +10,7 @@ loop-row-init g c =
     let s = c.args.slots.now in
     let t = c.args.table.now in
     let R = c.rows-rows.result in
-    let f = fitting (length s) (length s) R (length t) (omega arith) c.requires.few c.rows-rows.ensures.value c.requires.room in
+    let f = fitting (length s) (length s) (length s) R (length t) (omega arith) (omega arith) c.requires.few c.rows-rows.ensures.value c.requires.room in
     record {
       fit = simp length-set f;
       stored = stored_leaf g.C.Compression.image s R t c.args.slot c.leaf_value.result f c.requires.slot c.leaf_value.ensures;
@@ -20,25 +20,25 @@ pub slice_copy_out-left : goal.slice_copy_out-left
 slice_copy_out-left g c =
     let n = length c.args.slots.now in
     let r = c.loop-row.row in
-    let o = c.args.slot / 2 ^ r in
-    let q = reach n c.rows-rows.result r o (length c.loop-row.table) c.loop-row.invariant.fit (omega arith) (run_true n r o c.if-not-is_within.ensures) in
-    rw (c.index_of.ensures, c.halves.ensures.left) q.left
+    let o : ℕ = c.args.slot / 2 ^ r in
+    let h = halves n r o (omega arith) (run_true n r o c.if-not-is_within.ensures) in
+    rw (c.index_of.ensures, c.halves.ensures.left) (has_entry n c.rows-rows.result (r - 1) (2 * o) (length c.loop-row.table) c.loop-row.invariant.fit (omega arith))
 
 pub slice_copy_out-right : goal.slice_copy_out-right
 slice_copy_out-right g c =
     let n = length c.args.slots.now in
     let r = c.loop-row.row in
-    let o = c.args.slot / 2 ^ r in
-    let q = reach n c.rows-rows.result r o (length c.loop-row.table) c.loop-row.invariant.fit (omega arith) (run_true n r o c.if-not-is_within.ensures) in
-    rw (c.index_of-in-loop-row.ensures, c.halves.ensures.right) q.right
+    let o : ℕ = c.args.slot / 2 ^ r in
+    let h = halves n r o (omega arith) (run_true n r o c.if-not-is_within.ensures) in
+    rw (c.index_of-in-loop-row.ensures, c.halves.ensures.right) (has_entry n c.rows-rows.result (r - 1) (2 * o + 1) (length c.loop-row.table) c.loop-row.invariant.fit h)
 
 pub bounds-table-index_of : goal.bounds-table-index_of
 bounds-table-index_of g c =
     let n = length c.args.slots.now in
     let r = c.loop-row.row in
-    let o = c.args.slot / 2 ^ r in
-    let q = reach n c.rows-rows.result r o (length c.loop-row.table) c.loop-row.invariant.fit (omega arith) (run_true n r o c.if-not-is_within.ensures) in
-    rw c.index_of-in-loop-row-2.ensures q.here
+    let o : ℕ = c.args.slot / 2 ^ r in
+    rw c.index_of-in-loop-row-2.ensures
+    (has_entry n c.rows-rows.result r o (length c.loop-row.table) c.loop-row.invariant.fit (run_true n r o c.if-not-is_within.ensures))
 
 pub loop-row-preserved : goal.loop-row-preserved
 loop-row-preserved g c =

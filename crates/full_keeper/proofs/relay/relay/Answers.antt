@@ -1,20 +1,15 @@
-use Rattle.std.proofs.Common.{◌≡◌, ◌+◌, ◌/◌, ◌^◌, ◌<◌, ◌≤◌, length, min, arith, ap, refl, ◌∙◌}
+use Rattle.std.proofs.Common.{◌≡◌, ◌+◌, ◌/◌, ◌^◌, ◌<◌, ◌≤◌, length, min, arith, ap}
 use Rattle.full_keeper.proofs.Rows.{fitting}
 use Rattle.full_keeper.proofs.Moves.{laid_by, row_in, copied, relaid_none, relaid_more, relaid_all}
 use Rattle.full_keeper.proofs.relay.relay.Goals as goal
 use Rattle.full_keeper.proofs.relay.relay.Goals.{then-from-to-2, else-from-to-2}
 
-pub returns-then-from-to : goal.returns-then-from-to
-returns-then-from-to c =
-    let R = c.rows-from.result in
-    laid_by _ c.args.old c.args.new R R c.args.table.now c.args.table.now c.rows-from.ensures.value (c.if-from-to.true ∙ c.rows-to.ensures.value) (λ r o h. refl)
-
 pub loop-done-init : goal.loop-done-init
 loop-done-init c =
     let n = min c.args.old c.args.new in
     let len = length c.args.table.now in
-    let from = fitting n c.args.old c.rows-from.result len (omega arith) (omega arith) c.rows-from.ensures.value c.requires.0 in
-    let to = fitting n c.args.new c.rows-to.result len (omega arith) (omega arith) c.rows-to.ensures.value c.requires.1 in
+    let from = fitting n c.args.old c.args.old c.rows-from.result len (omega arith) (omega arith) (omega arith) c.rows-from.ensures.value c.requires.0 in
+    let to = fitting n c.args.new c.args.new c.rows-to.result len (omega arith) (omega arith) (omega arith) c.rows-to.ensures.value c.requires.1 in
     record { from = from; to = to; relaid = relaid_none n _ _ c.args.table.now from.high to.high c.if-from-to.false c.min-last.result c.min-last.ensures }
 
 pub copy_within-requires-clause-in_bounds : goal.copy_within-requires-clause-in_bounds
