@@ -6,7 +6,7 @@ mod relay;
 
 ghost use Rattle.std.specs.Prelude.{◌≡◌, ℕ, ◌+◌, ◌^◌, ◌<◌, ◌≤◌, [], length, IfOk, vec_len};
 ghost use Rattle.utreexo.specs.Forest.{rows as rows_of};
-ghost use Rattle.full_keeper.specs.Table.{AtPositions, StoredBut};
+ghost use Rattle.full_keeper.specs.Table.{AtPositions};
 ghost use Rattle.std.proofs.Common.{rules};
 
 use crate::layout::*;
@@ -26,30 +26,17 @@ pub struct Full<C: Compression> {
     bare: Bare<C>,
     table: Vec<Option<Value>>,
     ghost room: { 2 ^ (rows_of bare.limit + 1) ≤ vec_len table },
+    ghost stored: { AtPositions C.Compression.image bare.coins.items table.items },
 }
 
 impl<C: Compression> Full<C> {
     // Reserves all the memory that it will use, and fails if there is not so much.
     pub fn new(heap: Global, capacity: u32) -> Result<Full<C>, AllocError>
-        ensures made { IfOk result (λ m. (m.bare.coins.items ≡ []) × (m.bare.limit ≡ capacity)) }
-        ensures sound { IfOk result (λ m. AtPositions C.Compression.image m.bare.coins.items m.table.items) }
+        ensures { IfOk result (λ m. (m.bare.coins.items ≡ []) × (m.bare.limit ≡ capacity)) }
     {
         let bare = Bare::new(heap, capacity)?;
         let table = vec![in heap; None; 2usize << place::rows(capacity)]?;
         Ok(Full { bare, table })
-    }
-
-    // Works out the value over each run that holds the slot.
-    fn update(&mut self, slot: Slot)
-        requires { slot.number < length self.old.bare.coins.items }
-        ensures same { self.new.bare ≡ self.old.bare }
-        ensures kept { StoredBut C.Compression.image self.old.bare.coins.items (rows_of (length self.old.bare.coins.items)) self.old.table.items slot.number 0 → AtPositions C.Compression.image self.new.bare.coins.items self.new.table.items }
-    {
-        update_path::<C>(
-            self.table.as_mut_slice(),
-            self.bare.slots(),
-            slot.number as usize,
-        );
     }
 }
 
@@ -57,8 +44,6 @@ impl<C: Compression> Keeper<C> for Full<C> {
     ghost slots = { λ m. m.bare.coins.items };
 
     ghost limit = { λ m. m.bare.limit };
-
-    ghost sound = { λ m. AtPositions C.Compression.image m.bare.coins.items m.table.items };
 
     ghost fits = { Prim.search rules };
 
@@ -85,29 +70,38 @@ impl<C: Compression> Keeper<C> for Full<C> {
     }
 
     fn append(&mut self, coin: Coin) -> Result<(), Refusal> {
-        let count = self.count();
+        let count = self.bare.count();
         self.bare.append(coin)?;
-        relay(self.table.as_mut_slice(), count, count + 1);
-        self.update(Slot { number: count });
+        let table = self.table.as_mut_slice();
+        relay(table, count, count + 1);
+        update_path::<C>(table, self.bare.slots(), count as usize);
         Ok(())
     }
 
     fn blank(&mut self, slot: Slot) -> Result<(), Refusal> {
         self.bare.blank(slot)?;
-        self.update(slot);
+        update_path::<C>(
+            self.table.as_mut_slice(),
+            self.bare.slots(),
+            slot.number as usize,
+        );
         Ok(())
     }
 
     fn refill(&mut self, slot: Slot, coin: Coin) -> Result<(), Refusal> {
         self.bare.refill(slot, coin)?;
-        self.update(slot);
+        update_path::<C>(
+            self.table.as_mut_slice(),
+            self.bare.slots(),
+            slot.number as usize,
+        );
         Ok(())
     }
 
     // The values over the last slot stay in the table: their runs are within the count no more.
     fn cut(&mut self) -> Result<(), Refusal> {
         self.bare.cut()?;
-        let count = self.count();
+        let count = self.bare.count();
         relay(self.table.as_mut_slice(), count + 1, count);
         Ok(())
     }

@@ -21,11 +21,6 @@ run_within n row place = nat_le ((place + 1) * 2 ^ row) n
 abbrev pub value_read : Image → Slots → ℕ → ℕ → Result (Option Value) Refusal
 value_read image s row place = cond (run_within (length s) row place) (Ok (value_over image s row place)) (Err NotFound)
 
--- a run is answered exactly if it lies within the count, whatever the answer is
-abbrev pub AnswersWithin : Slots → ℕ → ℕ → Result (Option Value) Refusal → Type 0
-AnswersWithin s row place (Ok v) = run_within (length s) row place ≡ true
-AnswersWithin s row place (Err e) = (run_within (length s) row place ≡ false) × (e ≡ NotFound)
-
 -- Changes ------------------------------------------------------------------------------
 -- Each says when the call is granted, and the slots t after it; a refused call leaves them as they were.
 

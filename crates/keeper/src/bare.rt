@@ -61,8 +61,6 @@ impl<C: Compression> Keeper<C> for Bare<C> {
 
     ghost limit = { λ m. m.limit };
 
-    ghost sound = { λ _. Unit {0} };
-
     ghost fits = { Prim.search rules };
 
     ghost small = { Prim.search rules };

@@ -6,7 +6,7 @@ pub mod run;
 
 ghost use Rattle.std.specs.Prelude.{◌≡◌, ℕ, ◌^◌, ◌<◌, ◌≤◌, length};
 ghost use Rattle.utreexo.specs.Forest.{Slots};
-ghost use Rattle.keeper.specs.Calls.{coin_read, value_read, AnswersWithin, Appended, Blanked, Refilled, Cut};
+ghost use Rattle.keeper.specs.Calls.{coin_read, value_read, Appended, Blanked, Refilled, Cut};
 
 use crate::run::Run;
 use compression::Compression;
@@ -15,15 +15,11 @@ use utreexo::types::{Coin, Slot, Value};
 
 // A keeper means a list of slots and a capacity, the most slots that it can have, which never changes. Its values are under one
 // compression.
-// `same` and `kept` stand in each change: they compare two states of a keeper, which no invariant can, and one name for both is no plainer.
+// `same` stands in each change: it compares two states of a keeper, which no invariant can, and a name for it is no plainer.
 pub trait Keeper<C: Compression> {
     ghost slots: { Self → Slots };
 
     ghost limit: { Self → ℕ };
-
-    // That what a keeper has stored beside its coins agrees with them. It holds of each new keeper and every call keeps it, so it
-    // is asked of no caller: it is the premise of what a call says of stored values.
-    ghost sound: { Self → Type 0 };
 
     fn count(&self) -> u32
         ensures { result ≡ length (slots self.now) };
@@ -37,31 +33,26 @@ pub trait Keeper<C: Compression> {
 
     // The value over a run; None if it is wholly blank.
     fn value(&self, run: Run) -> Result<Option<Value>, Refusal>
-        ensures within { AnswersWithin (slots self.now) run.row run.place result }
-        ensures answer { sound self.now → result ≡ value_read C.Compression.image (slots self.now) run.row run.place };
+        ensures { result ≡ value_read C.Compression.image (slots self.now) run.row run.place };
 
     fn append(&mut self, coin: Coin) -> Result<(), Refusal>
         ensures after { Appended (slots self.old) (limit self.old) coin result (slots self.new) }
-        ensures same { limit self.new ≡ limit self.old }
-        ensures kept { sound self.old → sound self.new };
+        ensures same { limit self.new ≡ limit self.old };
 
     // Empties a live slot.
     fn blank(&mut self, slot: Slot) -> Result<(), Refusal>
         ensures after { Blanked (slots self.old) slot.number result (slots self.new) }
-        ensures same { limit self.new ≡ limit self.old }
-        ensures kept { sound self.old → sound self.new };
+        ensures same { limit self.new ≡ limit self.old };
 
     // Fills a blank slot.
     fn refill(&mut self, slot: Slot, coin: Coin) -> Result<(), Refusal>
         ensures after { Refilled (slots self.old) slot.number coin result (slots self.new) }
-        ensures same { limit self.new ≡ limit self.old }
-        ensures kept { sound self.old → sound self.new };
+        ensures same { limit self.new ≡ limit self.old };
 
     // Drops the last slot, live or blank.
     fn cut(&mut self) -> Result<(), Refusal>
         ensures after { Cut (slots self.old) result (slots self.new) }
-        ensures same { limit self.new ≡ limit self.old }
-        ensures kept { sound self.old → sound self.new };
+        ensures same { limit self.new ≡ limit self.old };
 
     ghost fits: { (k : Self) → length (slots k) ≤ limit k };
 

@@ -1,15 +1,18 @@
-use Rattle.std.proofs.Common.{◌≡◌, ◌+◌, ◌-◌, length, vec_items, vec_len, ap, ◌∙◌, arith, length-take}
+use Rattle.std.proofs.Common.{◌≡◌, ◌+◌, ◌-◌, length, vec_items, vec_len, ap, ◌∙◌, arith, length-take, rules}
 use Rattle.std.proofs.lemmas.List.{with_items_is}
 use Rattle.full_keeper.proofs.Rows.{room}
 use Rattle.full_keeper.proofs.Values.{cut_kept}
 use Rattle.full_keeper.proofs.FullKeeper.cut.Goals as goal
 
-pub returns-clause-kept : goal.returns-clause-kept
-returns-clause-kept g c =
+pub invariant_of-self-2 : goal.invariant_of-self-2
+invariant_of-self-2 g c =
     let m = c.args.self.now in
     let z = c.in_ok-cut.ensures.after in
-    cut_kept g.C.Compression.image (vec_items m.bare.coins) _ (vec_items m.table) c.as_mut_slice.result.now c.relay.new.table _ c.count-count.result z.0 c.count-count.ensures z.1
-    c.as_mut_slice.ensures.value (with_items_is m.table c.relay.new.table (omega arith)) c.relay.ensures
+    record {
+      room = search rules;
+      stored = cut_kept g.C.Compression.image (vec_items m.bare.coins) _ (vec_items m.table) c.as_mut_slice.result.now c.relay.new.table _ c.count-count.result z.0 c.count-count.ensures z.1
+          c.as_mut_slice.ensures.value (with_items_is m.table c.relay.new.table (omega arith)) c.relay.ensures m.stored;
+    }
 
 pub relay-requires : goal.relay-requires
 relay-requires g c =

@@ -26,8 +26,8 @@ index-requires g c =
     let f = fitting n n m.bare.limit c.rows.result (vec_len m.table) (omega arith) (omega arith) m.bare.small c.rows.ensures.value m.room in
     rw c.index_of.ensures (has_entry n c.rows.result c.args.run.row c.args.run.place _ f (run_true n c.args.run.row c.args.run.place c.if-not-is_within.ensures))
 
-pub returns-clause-answer : goal.returns-clause-answer
-returns-clause-answer g c = λ was.
+pub returns : goal.returns
+returns g c =
     let m = c.args.self.now in
     let s = vec_items m.bare.coins in
     let t = vec_items m.table in
@@ -41,5 +41,5 @@ returns-clause-answer g c = λ was.
     ap Ok
     (get_or_read_under t c.index_of.result (vec_len m.table) c.index.result.now None c.index.ensures here m.table.ok.0
     ∙ ap (λ x. get_or t x None) (c.index_of.ensures ∙ ap (λ x. index x row place) R)
-    ∙ was row place (subst (λ x. place < x / 2 ^ row) c.count-count.ensures h))
+    ∙ m.stored row place (subst (λ x. place < x / 2 ^ row) c.count-count.ensures h))
     ∙ sym (cond-true (run_within (length s) row place) _ _ (sym (c.if-not-is_within.ensures ∙ ap (λ x. run_within x row place) c.count-count.ensures)))
