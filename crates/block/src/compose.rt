@@ -69,7 +69,7 @@ impl<'a> Parts<'a> {
 }
 
 // Composes a block from the four lists into the front of the output, and gives its length. A longer output keeps its tail.
-// The lists are parameters of their own, since the scope names the call with them; inside they go together.
+// By a rule of the project compose takes the four lists; inside they go together.
 #[tactic(auto, using(crate::proofs::Composing::composed_long, crate::proofs::Composing::compose_short))]
 pub fn compose(
     targets: &[Position],

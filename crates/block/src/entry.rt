@@ -38,8 +38,8 @@ impl Counts {
     }
 }
 
-// An entry is a part of the block's own bytes; the end says that none is left. It is a case here and no `Option` around the entry, since
-// the scope names that form.
+// An entry is a part of the block's own bytes; the end says that none is left.
+// By a rule of the project the end is a case, and no `Option` stands around the entry.
 #[derive(Clone, Copy)]
 pub enum Entry<'a> {
     Target(&'a [u8; 8]),

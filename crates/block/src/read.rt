@@ -45,7 +45,7 @@ fn next_offset(counts: Counts, before: usize) -> usize
 
 // The entry after the one at this offset (0 for none yet), with its own offset from the block's first byte and the unread rest. So
 // what is given back is what the next call is given. Where no entry is left, or too few bytes are, the answer is the end.
-// The tuple, and the end as a case of the entry, are the form that the scope names.
+// By a rule of the project the answer is this tuple, returned as it is.
 pub fn next<'a>(counts: Counts, offset: usize, rest: &'a [u8]) -> (Entry<'a>, usize, &'a [u8])
     ensures { Reads counts offset rest.now result }
 {
