@@ -59,7 +59,7 @@ module _ {image : Image} {xs : List Item} {ss : List Spend} where
     push_on p out' rest e f = ap (λ (q : List Item). q ++ rest) e ∙ append_assoc out (p ∷ []) rest ∙ ap (λ (q : List Item). out ++ q) (sym f) ∙ was.ahead
 
     -- an item of the row comes first
-    pub merging_left : (d : Spend) → j < length ss → (x : Item) → Some x ≡ first_left (drop i xs) (get_or ss j d).place → (out' : List Item) → out' ≡ out ++ (x ∷ []) → Merging image xs ss out' (i + 1) j
+    pub merging_left : (d : Spend) → j < length ss → (x : Item) → Some x ≡ first_left (drop i xs) (get_or ss j d).node.place → (out' : List Item) → out' ≡ out ++ (x ∷ []) → Merging image xs ss out' (i + 1) j
     merging_left d lt x e out' oe =
         let w = was in
         let right = ap (spents image) (drop_more ss j d lt) in
@@ -79,7 +79,7 @@ module _ {image : Image} {xs : List Item} {ss : List Spend} where
         tail_is xs i = drop-drop 1 i xs
 
     -- a target comes first
-    pub merging_right : (d : Spend) → j < length ss → None ≡ first_left (drop i xs) (get_or ss j d).place → (p : Item) → p ≡ spent_item image (target_of (get_or ss j d)) → (out' : List Item) → out' ≡ out ++ (p ∷ [])
+    pub merging_right : (d : Spend) → j < length ss → None ≡ first_left (drop i xs) (get_or ss j d).node.place → (p : Item) → p ≡ spent_item image (target_of (get_or ss j d)) → (out' : List Item) → out' ≡ out ++ (p ∷ [])
         → Merging image xs ss out' i (j + 1)
     merging_right d lt e p pe out' oe =
         let w = was in
@@ -129,11 +129,11 @@ module _ {r : ℕ} {ss : List Spend} where
   pub counting_none : Counting r ss 0
   counting_none = record { within = omega arith; taken = refl; rest = refl }
 
-  pub counting_more : {k : ℕ} → Counting r ss k → (d : Spend) → k < length ss → (get_or ss k d).row ≡ r → Counting r ss (k + 1)
+  pub counting_more : {k : ℕ} → Counting r ss k → (d : Spend) → k < length ss → (get_or ss k d).node.row ≡ r → Counting r ss (k + 1)
   counting_more {k} w d lt e =
       let s = get_or ss k d in
       let here = ap targets (drop_more ss k d lt) in
-      let t = eq-eqb s.row r e in
+      let t = eq-eqb s.node.row r e in
       let f : front r (targets (drop k ss)) ≡ target_of s ∷ front r (targets (drop (k + 1) ss)) = ap (front r) here ∙ ap (λ (b : Bool). cond b (target_of s ∷ front r (targets (drop (k + 1) ss))) []) t in
       let g : past r (targets (drop k ss)) ≡ past r (targets (drop (k + 1) ss)) = ap (past r) here ∙ ap (λ (b : Bool). cond b (past r (targets (drop (k + 1) ss))) (target_of s ∷ targets (drop (k + 1) ss))) t in
       let h : targets (take (k + 1) ss) ≡ targets (take k ss) ++ (target_of s ∷ []) = ap targets (take_more ss k d lt) ∙ map_push target_of (take k ss) s in
@@ -143,11 +143,11 @@ module _ {r : ℕ} {ss : List Spend} where
         rest = sym g ∙ w.rest;
       }
 
-  pub counting_stop : {k : ℕ} → Counting r ss k → (d : Spend) → k < length ss → ((get_or ss k d).row ≡ r → ⊥) → Counted r ss k
+  pub counting_stop : {k : ℕ} → Counting r ss k → (d : Spend) → k < length ss → ((get_or ss k d).node.row ≡ r → ⊥) → Counted r ss k
   counting_stop {k} w d lt e =
       let s = get_or ss k d in
       let here = ap targets (drop_more ss k d lt) in
-      let t = ne_eqb s.row r e in
+      let t = ne_eqb s.node.row r e in
       let f : front r (targets (drop k ss)) ≡ [] = ap (front r) here ∙ ap (λ (b : Bool). cond b (target_of s ∷ front r (targets (drop (k + 1) ss))) []) t in
       let g : past r (targets (drop k ss)) ≡ targets (drop k ss) = ap (past r) here ∙ ap (λ (b : Bool). cond b (past r (targets (drop (k + 1) ss))) (target_of s ∷ targets (drop (k + 1) ss))) t ∙ sym here in
       record { within = w.within; taken = sym (append-nil (targets (take k ss))) ∙ ap (λ (q : List Target). targets (take k ss) ++ q) (sym f) ∙ w.taken; rest = sym g ∙ w.rest }

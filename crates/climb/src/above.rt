@@ -43,7 +43,7 @@ pub(crate) fn spent_item<C: Compression>(spend: Spend) -> Item
     ensures { result ≡ spent_item C.Compression.image (target_of spend) }
 {
     Item {
-        place: spend.place,
+        place: spend.node.place,
         claim: C::leaf(spend.coin),
         left: None,
     }

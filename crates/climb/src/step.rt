@@ -91,7 +91,7 @@ pub(crate) fn merge_row<C: Compression>(carried: &[Item], spends: &[Spend]) -> R
     let mut j = 0;
     while j < spends.len() {
         let spend = spends[j];
-        if let Some(item) = item_before(carried, i, spend.place) {
+        if let Some(item) = item_before(carried, i, spend.node.place) {
             row.push(item);
             i += 1;
         } else {
@@ -112,7 +112,7 @@ pub(crate) fn count_row(spends: &[Spend], row: u8) -> usize
 {
     let mut k = 0;
     while k < spends.len() {
-        if spends[k].row != row {
+        if spends[k].node.row != row {
             return k;
         }
         k += 1;

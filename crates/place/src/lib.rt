@@ -36,13 +36,12 @@ fn highest_bit(x: u64) -> u8
     (63 - x.leading_zeros()) as u8
 }
 
-// The number of whole runs of 2^row slots among so many; so, too, the place that lies so many rows above a place. A u32 is shifted by
-// 31 at most.
+// The number of whole runs of 2^row slots among so many; so, too, the place that lies so many rows above a place.
 pub fn runs(count: u32, row: u8) -> u32
     ensures value { result ≡ count / 2 ^ row }
     ensures low { 0 < result → row < 32 }
 {
-    if row < 32 { count >> row } else { 0 }
+    count.unbounded_shr(row as u32)
 }
 
 // Whether a place is in the forest. The place above a root is not, since its run reaches past the count.

@@ -6,9 +6,9 @@ use Rattle.utreexo.specs.Forest.{locate}
 use Rattle.utreexo.specs.Claims.{Target, beneath, same_node}
 use Rattle.utreexo.specs.Blocks.{ascending}
 use Rattle.utreexo.specs.Checks.{Cause, cause, named, above_another}
-use Rattle.targets.specs.declared.spends.Spends.{Spends}
+use Rattle.targets.specs.declared.spend.Spend.{Spend}
 use Rattle.targets.specs.declared.placed.Targets.{Targets}
-use Rattle.targets.specs.Spends.{targets, listed}
+use Rattle.targets.specs.Spends.{targets}
 
 -- p is no position of the forest of n slots
 abbrev pub outside : ℕ → ℕ → Bool
@@ -30,7 +30,7 @@ target_causes n ps cs =
 
 -- the targets of the definitions
 abbrev pub placed : Targets → List Target
-placed t = targets (listed t.spends)
+placed t = targets t.spends.items
 
 -- t are the named targets, in a forest of n slots
 pub record Are (n : ℕ) (ps : List ℕ) (cs : List Coin) (t : Targets) : Type 0 where
@@ -38,6 +38,6 @@ pub record Are (n : ℕ) (ps : List ℕ) (cs : List Coin) (t : Targets) : Type 0
   pub named_so : placed t ≡ named n ps cs
 
 -- all positions are in the forest, and these are the targets
-pub record Located (n : ℕ) (ps : List ℕ) (cs : List Coin) (s : Spends) : Type 0 where
+pub record Located (n : ℕ) (ps : List ℕ) (cs : List Coin) (ss : List Spend) : Type 0 where
   pub all_inside : any (outside n) ps ≡ false
-  pub are : targets (listed s) ≡ named n ps cs
+  pub are : targets ss ≡ named n ps cs

@@ -7,27 +7,23 @@ ghost use Rattle.targets.specs.Spends.{target_of, targets};
 ghost use Rattle.targets.specs.Targets.{outside, strictly_above, Located};
 
 use crate::spend::Spend;
-use crate::spends::Spends;
+use arrayvec::ArrayVec;
 use utreexo::types::{Coin, Position};
 
 // The targets at the positions, each with the coin of the same number, if all are in the forest.
-pub(crate) fn place_all(count: u32, positions: &[Position], coins: &[Coin]) -> Option<Spends>
+pub(crate) fn place_all(
+    count: u32,
+    positions: &[Position],
+    coins: &[Coin],
+) -> Option<ArrayVec<Spend, 32>>
     requires few { length positions.now ≤ 32 }
     requires same { length positions.now ≡ length coins.now }
-    ensures { MatchOption result (any (outside count) (numbers positions.now) ≡ true) (Located count (numbers positions.now) coins.now) }
+    ensures { MatchOption result (any (outside count) (numbers positions.now) ≡ true) (λ spends. Located count (numbers positions.now) coins.now spends.items) }
 {
-    let mut spends = Spends::empty();
-    let mut i = 0;
-    while i < positions.len() {
-        let Some(node) = place::locate(count, positions[i]) else {
-            return None;
-        };
-        spends.push(Spend {
-            row: node.row,
-            place: node.place,
-            coin: coins[i],
-        });
-        i += 1;
+    let mut spends = ArrayVec::new();
+    for (position, coin) in positions.iter().zip(coins) {
+        let node = place::locate(count, *position)?;
+        spends.push(Spend { node, coin: *coin });
     }
     Some(spends)
 }
@@ -43,31 +39,19 @@ fn place_above(place: u32, rows: u8) -> u32
 fn is_above(upper: Spend, lower: Spend) -> bool
     ensures { result ≡ strictly_above (target_of upper) (target_of lower) }
 {
-    if lower.row >= upper.row {
-        return false;
-    }
-    place_above(lower.place, upper.row - lower.row) == upper.place
+    let (above, below) = (upper.node, lower.node);
+    below.row < above.row && place_above(below.place, above.row - below.row) == above.place
 }
 
 fn is_above_any(upper: Spend, spends: &[Spend]) -> bool
     ensures { result ≡ any (strictly_above (target_of upper)) (targets spends.now) }
 {
-    for lower in spends {
-        if is_above(upper, *lower) {
-            return true;
-        }
-    }
-    false
+    spends.iter().any(|lower| is_above(upper, *lower))
 }
 
 // Whether some target is above another.
 pub(crate) fn any_above(spends: &[Spend]) -> bool
     ensures { result ≡ above_another (targets spends.now) }
 {
-    for upper in spends {
-        if is_above_any(*upper, spends) {
-            return true;
-        }
-    }
-    false
+    spends.iter().any(|upper| is_above_any(*upper, spends))
 }

@@ -4,4 +4,3 @@
 mod checks;
 pub mod placed;
 pub mod spend;
-pub mod spends;

@@ -1,16 +1,17 @@
 // The targets of a block that the checks on positions let pass.
 ghost use Rattle.std.specs.Prelude.{◌≡◌, true};
 ghost use Rattle.targets.specs.Valid.{valid};
-ghost use Rattle.targets.specs.Spends.{listed, targets};
+ghost use Rattle.targets.specs.Spends.{targets};
 
-use crate::spends::Spends;
+use crate::spend::Spend;
+use arrayvec::ArrayVec;
 
 // Targets in a forest of `count` slots: all in the forest, ascending, and none above another. Only `place` makes one.
-#[derive(Clone, Copy)]
+#[derive(Drop)]
 pub struct Targets {
     count: u32,
-    spends: Spends,
-    ghost valid: { valid count (targets (listed spends)) ≡ true },
+    spends: ArrayVec<Spend, 32>,
+    ghost valid: { valid count (targets spends.items) ≡ true },
 }
 
 mod methods;

@@ -1,10 +1,10 @@
 // One target of a block.
+use place::Node;
 use utreexo::types::Coin;
 
-// A target: its row and place, and the coin that it names, which is to be spent.
-#[derive(Clone, Copy)]
+// A target: its place, and the coin that it names, which is to be spent.
+#[derive(Clone, Copy, Default)]
 pub struct Spend {
-    pub row: u8,
-    pub place: u32,
+    pub node: Node,
     pub coin: Coin,
 }

@@ -1,15 +1,12 @@
+use Rattle.std.proofs.Common.{◌∙◌, rules, tests}
+use Rattle.std.proofs.lemmas.Iterator.{YieldsList-from_slice}
+use Rattle.std.proofs.lemmas.Iterator.Search.{any_from_yields_List}
 use Rattle.targets.specs.Spends.{target_of}
 use Rattle.targets.specs.Targets.{strictly_above}
-use Rattle.targets.proofs.Placing.{any_here, any_more, any_done}
+use Rattle.targets.proofs.Placing.{any_targets}
 use Rattle.targets.proofs.checks.is_above_any.Goals as goal
 
-pub returns-then-is_above : goal.returns-then-is_above
-returns-then-is_above c =
-    any_here (strictly_above (target_of c.args.upper)) c.args.spends.now c.loop-lower.lower-index _ c.loop-lower-test.true c.loop-lower.invariant c.if-is_above.ensures
-
-pub loop-lower-preserved : goal.loop-lower-preserved
-loop-lower-preserved c =
-    any_more (strictly_above (target_of c.args.upper)) c.args.spends.now c.loop-lower.lower-index _ c.loop-lower-test.true c.loop-lower.invariant c.if-is_above.ensures
-
 pub returns : goal.returns
-returns c = any_done (strictly_above (target_of c.args.upper)) c.args.spends.now c.loop-lower.lower-index c.loop-lower-test.false c.loop-lower.invariant
+returns c =
+    any_from_yields_List (λ s. strictly_above (target_of c.args.upper) (target_of s)) _ _ _ c.any.ensures.ran (YieldsList-from_slice c.args.spends.now (cc)) (λ x b q k. search (rules, tests))
+    ∙ any_targets (strictly_above (target_of c.args.upper)) c.args.spends.now

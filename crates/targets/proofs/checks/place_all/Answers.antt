@@ -1,18 +1,23 @@
-use Rattle.std.proofs.Common.{refl, arith}
-use Rattle.targets.proofs.Placing.{placing_more, placing_outside, placing_all}
+use Rattle.std.proofs.Common.{◌≡◌, length, ap, ◌∙◌, lit<, inl, inr, arith}
+use Rattle.std.specs.Slice.Iter.{iter_rest}
+use Rattle.std.specs.Iterator.Adapters.{zip_first}
+use Rattle.targets.proofs.Placing.{placing_none, placing_outside, placing_more, placing_all}
 use Rattle.targets.proofs.checks.place_all.Goals as goal
 
-pub returns-in_default : goal.returns-in_default
-returns-in_default c = placing_outside c.loop-i.invariant _ c.loop-i-test.true c.in_default.ensures.value
+pub loop-position-init : goal.loop-position-init
+loop-position-init c = placing_none c.requires.few c.requires.same c.new-spends.ensures (cc) (cc c.zip-position-items.ensures.second.0)
 
-pub bounds-coins-i : goal.bounds-coins-i
-bounds-coins-i c = let w = c.loop-i-test.true in let s = c.requires.same in omega arith
+pub returns-in_err-node : goal.returns-in_err-node
+returns-in_err-node c = rw c.from_residual.ensures (placing_outside c.loop-position.invariant c.in-Some.ensures.steps.0 c.in_err-node.ensures.value)
 
-pub loop-i-preserved : goal.loop-i-preserved
-loop-i-preserved c =
-    let w = c.loop-i-test.true in
-    let s = c.requires.same in
-    placing_more c.loop-i.invariant _ c.loop-i-test.true _ (omega arith) _ c.in-Some.ensures.value refl _ c.push.ensures
+pub push-requires : goal.push-requires
+push-requires c = (lit< tt, let s = ap length c.in-Some.ensures.steps.0 in omega arith)
+
+pub loop-position-preserved : goal.loop-position-preserved
+loop-position-preserved c =
+    placing_more c.loop-position.invariant c.in-Some.ensures.steps.0 c.in-Some.ensures.steps.1 c.in_ok-node.node c.in_ok-node.ensures.value c.push.ensures.items
 
 pub returns : goal.returns
-returns c = let d = placing_all c.loop-i.invariant c.loop-i-test.false in record { all_inside = d.0; are = d.1 }
+returns c =
+    let none : length (iter_rest (zip_first c.loop-position.position-iterator)) ≡ 0 = elim c.in-None.ensures.steps [ inl w ↦ w.1.0 | inr w ↦ omega arith ] in
+    placing_all c.loop-position.invariant none

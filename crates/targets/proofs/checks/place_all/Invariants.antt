@@ -1,10 +1,7 @@
-use Rattle.std.proofs.Common.{◌-◌, length}
-use Rattle.targets.specs.Spends.{listed}
+use Rattle.std.specs.Slice.Iter.{iter_rest}
+use Rattle.std.specs.Iterator.Adapters.{zip_first, zip_second}
 use Rattle.targets.proofs.Placing.{Placing}
 use Rattle.targets.proofs.checks.place_all.Given as goal
 
-abbrev pub invariant-loop-i : goal.invariant-loop-i
-invariant-loop-i l = Placing l.count l.positions l.coins l.i (listed l.spends)
-
-abbrev pub decreases-loop-i : goal.decreases-loop-i
-decreases-loop-i l = length l.positions - l.i
+abbrev pub invariant-loop-position : goal.invariant-loop-position
+invariant-loop-position l = Placing l.count l.positions l.coins l.spends.items (iter_rest (zip_first l.position-iterator)) (iter_rest (zip_second l.position-iterator))

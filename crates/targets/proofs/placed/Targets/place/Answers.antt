@@ -4,7 +4,7 @@ use Rattle.utreexo.specs.Blocks.{ascending}
 use Rattle.utreexo.specs.Checks.{cause, above_another}
 use Rattle.block.specs.Compose.{numbers}
 use Rattle.laws.proofs.Causes.{free, lone_cause}
-use Rattle.targets.specs.Spends.{targets, listed}
+use Rattle.targets.specs.Spends.{targets}
 use Rattle.targets.proofs.Refusals.{refused_many, refused_unequal, refused_unordered, refused_astray, refused_over, refused_not, placed_valid}
 use Rattle.targets.proofs.placed.Targets.place.Goals as goal
 
@@ -35,10 +35,10 @@ pub invariant_of-result : goal.invariant_of-result
 invariant_of-result c =
     let ordered = (free (cause 4 (not (ascending (numbers c.args.positions.now))) ∷ []) c.in-Ok.ensures.0).0 in
     let located = c.in-Some.ensures in
-    let apart : false ≡ above_another (targets (listed c.in-Some.spends)) = c.if-any_above.ensures ∙ ap (λ ss. above_another (targets ss)) c.as_slice.ensures.value in
+    let apart : false ≡ above_another (targets c.in-Some.spends.items) = c.if-any_above.ensures ∙ ap (λ ss. above_another (targets ss)) c.as_slice.ensures.value in
     record {
       valid = placed_valid c.args.count c.args.positions.now c.args.coins.now c.if-positions-gt32.false c.if-positions-coins.false ordered located.all_inside
-          (targets (listed c.in-Some.spends)) located.are apart (omega arith);
+          (targets c.in-Some.spends.items) located.are apart (omega arith);
     }
 
 pub returns : goal.returns
