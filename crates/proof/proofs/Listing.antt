@@ -1,36 +1,47 @@
 -- Records read one after the other.
-use Rattle.std.proofs.Common.{◌≡◌, ℕ, suc, ◌+◌, ◌*◌, ◌<◌, ◌≤◌, List, [], ◌∷◌, ◌++◌, map, length, take, set, sym, refl, ap, ◌∙◌, mul-le-mul_left, mul-zero, mul-suc, arith}
-use Rattle.std.proofs.lemmas.List.{take_more_set, length-set, map_push}
+use Rattle.std.proofs.Common.{◌≡◌, ℕ, zero, suc, ◌+◌, ◌-◌, ◌*◌, ◌/◌, ◌<◌, ◌≤◌, List, [], ◌∷◌, ◌++◌, map, length, get_or, take, drop, set, sym, refl, ap, ◌∙◌, subst, mul-zero, mul-suc, arith}
+use Rattle.std.proofs.lemmas.List.{take_more_set, map_push, drop-drop, length-take, length-drop, get_or-take, take_all}
+use Rattle.std.proofs.lemmas.Nat.{le-div}
+use Rattle.std.specs.Simd.{first_chunks}
 use Rattle.utreexo.specs.Bytes.{Bytes, part}
 use Rattle.utreexo.specs.Lists.{below}
 
-module _ {A : Type 0} (size : ℕ) (read : Bytes → A) (bytes : Bytes) (start count : ℕ) where
-  -- the first i records are in front
-  pub record Listing (i at : ℕ) (out : List A) : Type 0 where
-    pub room : count ≤ length out
-    pub offset : at ≡ start + size * i
-    pub front : take i out ≡ map (λ k. read (part (start + size * k) size bytes)) (below i)
+-- the chunk of number i
+pub chunk_at : (n k i : ℕ) (bytes d : Bytes) → i < k → get_or (first_chunks n k bytes) i d ≡ part (n * i) n bytes
+chunk_at n zero i bytes d l = absurd (omega arith)
+chunk_at n (suc k) zero bytes d l = ap (λ i. part i n bytes) (sym (mul-zero n))
+chunk_at n (suc k) (suc i) bytes d l = chunk_at n k i (drop n bytes) d (omega arith) ∙ ap (take n) (drop-drop (n * i) n bytes) ∙ ap (λ i. part i n bytes) (let m = mul-suc n i in omega arith)
 
-  pub listing_none : (out : List A) → count ≤ length out → Listing 0 start out
-  listing_none out t = record { room = t; offset = let z = mul-zero size in omega arith; front = refl }
+length_chunks : (n k : ℕ) (bytes : Bytes) → length (first_chunks n k bytes) ≡ k
+length_chunks n zero bytes = refl
+length_chunks n (suc k) bytes = ap suc (length_chunks n k (drop n bytes))
 
-  pub listing_room : start + size * count ≤ length bytes → {i at : ℕ} {out : List A} → Listing i at out → i < count → at + size ≤ length bytes
-  listing_room fit {i} w l =
-      let m : size * suc i ≤ size * count = mul-le-mul_left size l in
-      let s : size * suc i ≡ size * i + size = mul-suc size i in
-      let o = w.offset in
-      omega arith
+module _ {A : Type 0} (size : ℕ) (read : Bytes → A) (bytes : Bytes) (start : ℕ) where
+  -- the record of number i
+  abbrev pub record_at : ℕ → A
+  record_at i = read (part (start + size * i) size bytes)
 
-  pub listing_more : {i at : ℕ} {out : List A} → Listing i at out → i < count → (x : A) → x ≡ read (part at size bytes) → Listing (i + 1) (at + size) (set out i x)
-  listing_more {i} {at} {out} w l x e =
+  pub read_more : {i : ℕ} (count : ℕ) (out : List A) (rest : Bytes) (chunks : List Bytes) (x : A) (chunk : Bytes) → take i out ≡ map record_at (below i) → i < length out
+      → rest ≡ drop start bytes → chunks ≡ first_chunks size (length rest / size) rest → i < length (take count chunks) → chunk ≡ get_or (take count chunks) i chunk → x ≡ read chunk
+      → take (i + 1) (set out i x) ≡ map record_at (below (i + 1))
+  read_more {i} count out rest chunks x chunk w l t c m h e =
       let one : i + 1 ≡ suc i = omega arith in
-      let s : size * suc i ≡ size * i + size = mul-suc size i in
-      let o = w.offset in
-      let t = w.room in
-      record {
-        room = let q = length-set out i x in omega arith;
-        offset = let k = ap (λ j. size * j) one in omega arith;
-        front = take_more_set out i x (omega arith) ∙ ap (λ (l : List A). l ++ (x ∷ [])) w.front
-            ∙ ap (λ (y : A). map (λ k. read (part (start + size * k) size bytes)) (below i) ++ (y ∷ [])) (e ∙ ap (λ j. read (part j size bytes)) w.offset)
-            ∙ sym (map_push (λ k. read (part (start + size * k) size bytes)) (below i) i) ∙ ap (λ j. map (λ k. read (part (start + size * k) size bytes)) (below j)) (sym one);
-      }
+      let a = length-take count chunks in
+      let b = ap length c ∙ length_chunks size (length rest / size) rest in
+      let it : chunk ≡ part (start + size * i) size bytes = h ∙ get_or-take count chunks i chunk (omega arith) ∙ ap (λ (l : List Bytes). get_or l i chunk) c
+      ∙ chunk_at size (length rest / size) i rest chunk (omega arith) ∙ ap (part (size * i) size) t ∙ ap (take size) (drop-drop (size * i) start bytes) in
+      take_more_set out i x l ∙ ap (λ (l : List A). l ++ (x ∷ [])) w ∙ ap (λ (y : A). map record_at (below i) ++ (y ∷ [])) (e ∙ ap read it)
+      ∙ sym (map_push record_at (below i) i) ∙ ap (λ j. map record_at (below j)) (sym one)
+
+  pub read_all : {i : ℕ} (count : ℕ) (out : List A) → take i out ≡ map record_at (below i) → i ≡ count → take count out ≡ map record_at (below count)
+  read_all count out w e = subst (λ k. take k out ≡ map record_at (below k)) e w
+
+pub all_left : (bytes : Bytes) (start : ℕ) → take (length bytes - start) (drop start bytes) ≡ drop start bytes
+all_left bytes start = take_all (length bytes - start) (drop start bytes) (omega (arith, length-drop start bytes))
+
+pub enough : (size count start : ℕ) (bytes : Bytes) (chunks : List Bytes) → 0 < size → start + size * count ≤ length bytes → length chunks ≡ length (take (length bytes - start) (drop start bytes)) / size → length (take count chunks) ≡ count
+enough size count start bytes chunks p l e =
+    let a = length-take count chunks in
+    let b = le-div count (length (drop start bytes)) size p (omega (arith, length-drop start bytes)) in
+    let c = e ∙ ap (λ (l : Bytes). length l / size) (all_left bytes start) in
+    omega arith

@@ -1,9 +1,9 @@
 // The layers of the check, each for one or two numbers.
-ghost use Rattle.std.specs.Prelude.{◌≡◌, ◌+◌, ◌*◌, ◌≤◌, not, List, [], ◌∷◌, map, length, is_some};
+ghost use Rattle.std.specs.Prelude.{◌≡◌};
 ghost use Rattle.utreexo.specs.Lists.{any};
 ghost use Rattle.utreexo.specs.Checks.{blank_over};
 ghost use Rattle.targets.specs.Targets.{placed};
-ghost use Rattle.targets.specs.Spends.{target_of, targets};
+ghost use Rattle.targets.specs.Spends.{target_of};
 
 use targets::placed::Targets;
 use targets::spend::Spend;

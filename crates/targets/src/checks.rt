@@ -6,21 +6,16 @@ ghost use Rattle.block.specs.Compose.{numbers};
 ghost use Rattle.targets.specs.Spends.{target_of, targets};
 ghost use Rattle.targets.specs.Targets.{outside, strictly_above, Located};
 
-use crate::spend::Spend;
-use arrayvec::ArrayVec;
+use crate::spend::{Spend, Spends};
 use utreexo::types::{Coin, Position};
 
 // The targets at the positions, each with the coin of the same number, if all are in the forest.
-pub(crate) fn place_all(
-    count: u32,
-    positions: &[Position],
-    coins: &[Coin],
-) -> Option<ArrayVec<Spend, 32>>
+pub(crate) fn place_all(count: u32, positions: &[Position], coins: &[Coin]) -> Option<Spends>
     requires few { length positions.now ≤ 32 }
     requires same { length positions.now ≡ length coins.now }
     ensures { MatchOption result (any (outside count) (numbers positions.now) ≡ true) (λ spends. Located count (numbers positions.now) coins.now spends.items) }
 {
-    let mut spends = ArrayVec::new();
+    let mut spends = Spends::new();
     for (position, coin) in positions.iter().zip(coins) {
         let node = place::locate(count, *position)?;
         spends.push(Spend { node, coin: *coin });
@@ -32,7 +27,7 @@ pub(crate) fn place_all(
 fn place_above(place: u32, rows: u8) -> u32
     ensures { result ≡ place / 2 ^ rows }
 {
-    if rows < 32 { place >> rows } else { 0 }
+    place.unbounded_shr(rows as u32)
 }
 
 // Whether a target is above another: not at the same place, and over it.

@@ -3,14 +3,13 @@ ghost use Rattle.std.specs.Prelude.{◌≡◌, true};
 ghost use Rattle.targets.specs.Valid.{valid};
 ghost use Rattle.targets.specs.Spends.{targets};
 
-use crate::spend::Spend;
-use arrayvec::ArrayVec;
+use crate::spend::Spends;
 
 // Targets in a forest of `count` slots: all in the forest, ascending, and none above another. Only `place` makes one.
 #[derive(Drop)]
 pub struct Targets {
     count: u32,
-    spends: ArrayVec<Spend, 32>,
+    spends: Spends,
     ghost valid: { valid count (targets spends.items) ≡ true },
 }
 

@@ -1,4 +1,5 @@
 // One target of a block.
+use arrayvec::ArrayVec;
 use place::Node;
 use utreexo::types::Coin;
 
@@ -8,3 +9,6 @@ pub struct Spend {
     pub node: Node,
     pub coin: Coin,
 }
+
+// The targets of a block: at most 32.
+pub(crate) type Spends = ArrayVec<Spend, 32>;

@@ -1,21 +1,17 @@
-use Rattle.std.proofs.Common.{arith}
-use Rattle.proof.proofs.Listing.{listing_none, listing_room, listing_more}
+use Rattle.std.proofs.Common.{refl, arith}
+use Rattle.proof.proofs.Listing.{read_more, read_all, all_left, enough}
 use Rattle.proof.proofs.records.read_all.Goals as goal
 
 pub loop-i-init : goal.loop-i-init
-loop-i-init g c = listing_none g.T.Record.size g.T.Record.decoded c.args.bytes.now c.args.start c.args.count c.args.out.now c.requires.room
-
-pub read-requires : goal.read-requires
-read-requires g c =
-    listing_room g.T.Record.size g.T.Record.decoded c.args.bytes.now c.args.start c.args.count c.requires.whole c.loop-i.invariant c.loop-i-test.true
-
-pub overflow_add-at : goal.overflow_add-at
-overflow_add-at g c =
-    let room = listing_room g.T.Record.size g.T.Record.decoded c.args.bytes.now c.args.start c.args.count c.requires.whole c.loop-i.invariant c.loop-i-test.true in
-    let same = c.size-size.ensures in
-    omega arith
+loop-i-init g c = refl
 
 pub loop-i-preserved : goal.loop-i-preserved
 loop-i-preserved g c =
-    rw c.size-size.ensures
-    (listing_more g.T.Record.size g.T.Record.decoded c.args.bytes.now c.args.start c.args.count c.loop-i.invariant c.loop-i-test.true c.read.result c.read.ensures)
+    let size = enough g.row.N c.args.count c.args.start c.args.bytes.now c.as_chunks.result.0.now c.requires.size.0 c.requires.whole c.as_chunks.ensures.front_len in
+    read_more g.row.N g.T.Record.decoded c.args.bytes.now c.args.start c.args.count c.loop-i.out _ c.as_chunks.result.0.now c.from_bytes.result c.chunk-item.result c.loop-i.invariant (omega arith) (all_left c.args.bytes.now c.args.start) c.as_chunks.ensures.front (omega arith)
+    c.chunk-item.is c.from_bytes.ensures
+
+pub returns : goal.returns
+returns g c =
+    let size = enough g.row.N c.args.count c.args.start c.args.bytes.now c.as_chunks.result.0.now c.requires.size.0 c.requires.whole c.as_chunks.ensures.front_len in
+    read_all g.row.N g.T.Record.decoded c.args.bytes.now c.args.start c.args.count c.loop-i.out c.loop-i.invariant (omega arith)

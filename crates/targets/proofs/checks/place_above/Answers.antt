@@ -1,6 +1,10 @@
-use Rattle.std.proofs.Common.{sym, arith, pow_mono}
+use Rattle.std.proofs.Common.{sym, arith, pow_mono, inl, inr}
 use native.Mathlib.Nat.{div-eq_of_lt}
+use Rattle.std.proofs.lemmas.Bool.{cases_lt, lt-ltb, le-ltb}
 use Rattle.targets.proofs.checks.place_above.Goals as goal
 
-pub returns-else-rows-lt32 : goal.returns-else-rows-lt32
-returns-else-rows-lt32 c = sym (div-eq_of_lt (omega (arith, pow_mono {i = 32} {j = c.args.rows} (omega arith))))
+pub returns : goal.returns
+returns c = elim (cases_lt c.args.rows 32) [
+  | inl l ↦ rw (c.unbounded_shr.ensures, lt-ltb c.args.rows 32 l)
+  | inr g ↦ rw (c.unbounded_shr.ensures, le-ltb c.args.rows 32 g) (sym (div-eq_of_lt (omega (arith, pow_mono {i = 32} {j = c.args.rows} g))))
+]
