@@ -1,18 +1,16 @@
 -- The loops that find the needed positions.
-use Rattle.std.proofs.Common.{◌≡◌, ℕ, zero, suc, ◌+◌, ◌-◌, ◌*◌, ◌/◌, ◌^◌, ◌<◌, ◌≤◌, Bool, true, false, cond, List, [], ◌∷◌, ◌++◌, map, length, get_or, drop, Some, None, sym, refl, ap, ◌∙◌, arith}
-use Rattle.std.proofs.lemmas.List.{drop_more, drop_all, drop-drop, length-drop, append_assoc, append-nil, length_push, length-map, length-append}
+use Rattle.std.proofs.Common.{◌≡◌, ℕ, zero, suc, ◌+◌, ◌*◌, ◌/◌, ◌^◌, ◌≤◌, Bool, true, false, cond, List, [], ◌∷◌, ◌++◌, map, length, sym, refl, ap, ◌∙◌, arith}
+use Rattle.std.proofs.lemmas.List.{append_assoc, append-nil, length_push, nil_from_length, length-map, length-append}
 use Rattle.utreexo.specs.Values.{Image}
 use Rattle.utreexo.specs.Forest.{Node, at_node, position}
 use Rattle.utreexo.specs.Claims.{Target, Proof, needed}
 use Rattle.climb.specs.declared.item.Item.{Item}
 use Rattle.targets.proofs.Valid.{Valid}
 use Rattle.climb.specs.Rows.{top, beside, sib, lones, full, numbers, wanted}
-use Rattle.climb.specs.Held.{sibling_in}
+use Rattle.climb.specs.Held.{alone_item}
 use Rattle.climb.specs.Entries.{entry}
 use Rattle.climb.specs.Needed.{numbered, places}
 use Rattle.climb.proofs.Walk.{alone, lones_root, lones_pair, lones_lone}
-use Rattle.climb.proofs.Going.{sibling_parts, none_alone}
-use Rattle.climb.proofs.Steps.{alone_item}
 use Rattle.climb.proofs.Wanted.{needed_is}
 
 -- A row ------------------------------------------------------------------------------
@@ -22,66 +20,50 @@ alone_places x [] e = e
 alone_places x (y ∷ ys) e = e
 
 module _ (row w : ℕ) (items : List Item) (before : List Node) where
-  abbrev all_nodes : List Node
-  all_nodes = before ++ map (at_node row) (lones w (places items))
-
-  -- with the first i items seen, those that are left give the rest
-  pub record Lacking (nodes : List Node) (i : ℕ) : Type 0 where
-    pub within : i ≤ length items
-    pub room : length nodes ≤ length before + i
-    pub ahead : nodes ++ map (at_node row) (lones w (places (drop i items))) ≡ all_nodes
+  -- the items that are left give the rest
+  pub record Lacking (nodes : List Node) (rest : List Item) : Type 0 where
+    pub room : length nodes + length rest ≤ length before + length items
+    pub ahead : nodes ++ map (at_node row) (lones w (places rest)) ≡ before ++ map (at_node row) (lones w (places items))
 
 module _ {row w : ℕ} {items : List Item} {before : List Node} where
-  pub lacking_none : Lacking row w items before before 0
-  lacking_none = record { within = omega arith; room = omega arith; ahead = refl }
+  pub lacking_none : Lacking row w items before before items
+  lacking_none = record { room = omega arith; ahead = refl }
 
-  module _ {nodes : List Node} {i : ℕ} (was : Lacking row w items before nodes i) (d : Item) (lt : i < length items) where
-    left : drop i items ≡ get_or items i d ∷ drop (i + 1) items
-    left = drop_more items i d lt
+  module _ {nodes : List Node} {rest : List Item} (was : Lacking row w items before nodes rest) where
+    module _ {x : Item} {after : List Item} (left : rest ≡ x ∷ after) where
+      abbrev with_places : List ℕ → List Node
+      with_places l = nodes ++ map (at_node row) l
 
-    abbrev with_places : List ℕ → List Node
-    with_places l = nodes ++ map (at_node row) l
+      pub lacking_root : true ≡ top w x.place → Lacking row w items before nodes after
+      lacking_root e =
+          let r = was in
+          let l = ap length left in
+          record { room = omega arith; ahead = ap with_places (sym (ap (λ l. lones w (places l)) left ∙ lones_root w x.place (places after) (sym e))) ∙ r.ahead }
 
-    pub lacking_root : true ≡ top w (get_or items i d).place → Lacking row w items before nodes (i + 1)
-    lacking_root e =
-        let r = was in
-        record {
-          within = omega arith;
-          room = omega arith;
-          ahead = ap with_places (sym (ap (λ l. lones w (places l)) left ∙ lones_root w (get_or items i d).place (places (drop (i + 1) items)) (sym e))) ∙ r.ahead;
-        }
+      pub lacking_both : false ≡ top w x.place → {y : Item} {others : List Item} → after ≡ y ∷ others → beside x.place y.place ≡ true → Lacking row w items before nodes others
+      lacking_both e {y} {others} f b =
+          let r = was in
+          let l = ap length left in
+          let m = ap length f in
+          record {
+            room = omega arith;
+            ahead = ap with_places (sym (ap (λ l. lones w (places l)) (left ∙ ap (λ (l : List Item). x ∷ l) f) ∙ lones_pair w x.place y.place (places others) (sym e) b)) ∙ r.ahead;
+          }
 
-    pub lacking_both : false ≡ top w (get_or items i d).place → (y : Item) → Some y ≡ sibling_in (drop i items) → Lacking row w items before nodes (i + 2)
-    lacking_both e y f =
-        let r = was in
-        let found = sibling_parts (get_or items i d) (drop (i + 1) items) y (f ∙ ap sibling_in left) in
-        let tail : drop (i + 1) items ≡ y ∷ drop (i + 2) items =
-        found.1 ∙ ap (λ (l : List Item). y ∷ l) (drop-drop 1 (i + 1) items ∙ ap (λ (k : ℕ). drop k items) (omega arith)) in
-        let len : length items - (i + 1) ≡ 1 + length (drop (i + 2) items) = sym (length-drop (i + 1) items) ∙ ap length tail ∙ omega arith in
-        record {
-          within = omega arith;
-          room = omega arith;
-          ahead = ap with_places (sym (ap (λ l. lones w (places l)) (left ∙ ap (λ (l : List Item). get_or items i d ∷ l) tail) ∙ lones_pair w (get_or items i d).place y.place (places (drop (i + 2) items)) (sym e) found.0)) ∙ r.ahead;
-        }
+      pub lacking_lone : false ≡ top w x.place → alone_item x after ≡ true → {q : ℕ} → q ≡ sib x.place → {nodes' : List Node} → nodes' ≡ nodes ++ (at_node row q ∷ []) → Lacking row w items before nodes' after
+      lacking_lone e f {q} qe {nodes'} ne =
+          let r = was in
+          let l = ap length left in
+          let s = ap length ne ∙ length_push nodes (at_node row q) in
+          let later : List Node = map (at_node row) (lones w (places after)) in
+          record {
+            room = omega arith;
+            ahead = ap (λ (l : List Node). l ++ later) ne ∙ append_assoc nodes (at_node row q ∷ []) later ∙ ap (λ z. nodes ++ (at_node row z ∷ later)) qe
+                ∙ ap with_places (sym (ap (λ l. lones w (places l)) left ∙ lones_lone w x.place (places after) (sym e) (alone_places x after f))) ∙ r.ahead;
+          }
 
-    pub lacking_lone : false ≡ top w (get_or items i d).place → None ≡ sibling_in (drop i items) → (q : ℕ) → q ≡ sib (get_or items i d).place → (nodes' : List Node) → nodes' ≡ nodes ++ (at_node row q ∷ [])
-        → Lacking row w items before nodes' (i + 1)
-    lacking_lone e f q qe nodes' ne =
-        let r = was in
-        let size = length_push nodes (at_node row q) in
-        let size' = ap length ne in
-        let x = (get_or items i d).place in
-        let rest : List Node = map (at_node row) (lones w (places (drop (i + 1) items))) in
-        let one = lones_lone w x (places (drop (i + 1) items)) (sym e) (alone_places (get_or items i d) (drop (i + 1) items) (none_alone (get_or items i d) (drop (i + 1) items) (f ∙ ap sibling_in left))) in
-        record {
-          within = omega arith;
-          room = omega arith;
-          ahead = ap (λ (l : List Node). l ++ rest) ne ∙ append_assoc nodes (at_node row q ∷ []) rest ∙ ap (λ z. nodes ++ (at_node row z ∷ rest)) qe
-              ∙ ap with_places (sym (ap (λ l. lones w (places l)) left ∙ one)) ∙ r.ahead;
-        }
-
-  pub lacking_all : {nodes : List Node} {i : ℕ} → Lacking row w items before nodes i → length items ≤ i → nodes ≡ before ++ map (at_node row) (lones w (places items))
-  lacking_all {nodes} {i} r ge = sym (append-nil nodes) ∙ sym (ap (λ (l : List Item). nodes ++ map (at_node row) (lones w (places l))) (drop_all i items ge)) ∙ r.ahead
+    pub lacking_all : length rest ≡ 0 → nodes ≡ before ++ map (at_node row) (lones w (places items))
+    lacking_all e = sym (append-nil nodes) ∙ sym (ap (λ (l : List Item). nodes ++ map (at_node row) (lones w (places l))) (nil_from_length rest e)) ∙ was.ahead
 
 -- All rows -----------------------------------------------------------------------------
 
@@ -121,6 +103,9 @@ length_lones w (x ∷ (y ∷ ys)) = go (top w x) (beside x y) (length_lones w (y
 pub record Lacked (n : ℕ) (ts : List Target) (r : ℕ) (nodes : List Node) : Type 0 where
   pub few : length nodes ≤ 32 * r
   pub are : numbered n nodes ≡ wanted n ts 0 r
+
+pub lacked_none : {n : ℕ} {ts : List Target} {nodes : List Node} → nodes ≡ [] → Lacked n ts 0 nodes
+lacked_none {n} e = let l = ap length e in record { few = omega arith; are = ap (numbered n) e }
 
 module _ {n : ℕ} {ts : List Target} {r : ℕ} {nodes : List Node} where
   pub lacked_more : Lacked n ts r nodes → (image : Image) (p : Proof) (merged : List Item) → merged ≡ map (entry image p r) (full n ts r) → length merged ≤ 32

@@ -1,3 +1,4 @@
+pub mod Chunks
 mod Lists
 mod Walk
 mod Merged

@@ -1,7 +1,7 @@
 -- The item at a place of a row. Assumes nothing.
-use Rattle.std.proofs.Common.{◌≡◌, ℕ, zero, suc, ◌+◌, ◌/◌, ◌^◌, ◌<◌, ◌≤◌, Bool, true, false, cond, eqb, ◌⊎◌, List, [], ◌∷◌, map, length, get_or, drop, replicate, Some, None, sym, refl, ap, ◌∙◌, inl, inr}
-use Rattle.std.proofs.lemmas.List.{drop_more, drop_all}
-use Rattle.std.proofs.lemmas.Bool.{eq-eqb, ne_eqb, both_ways, cases_eq}
+use Rattle.std.proofs.Common.{◌≡◌, ℕ, ◌/◌, ◌^◌, ◌<◌, Bool, true, false, cond, eqb, ◌⊎◌, List, [], ◌∷◌, map, length, get_or, Some, None, sym, refl, ap, ◌∙◌, inl, inr, arith}
+use Rattle.std.proofs.lemmas.List.{get_or-map, get_or_past, length-map}
+use Rattle.std.proofs.lemmas.Bool.{eq-eqb, ne_eqb, both_ways, cases_eq, cases_lt}
 use Rattle.utreexo.specs.declared.types.Value.{Value}
 use Rattle.climb.specs.declared.item.Item.{Item}
 use Rattle.laws.proofs.Order.{Mem}
@@ -11,8 +11,8 @@ use Rattle.utreexo.specs.Claims.{Target, covered, Proof, proof_of, claim_at, aft
 use Rattle.targets.proofs.Valid.{Valid}
 use Rattle.climb.specs.Rows.{full, lookup}
 use Rattle.climb.specs.After.{left_at}
-use Rattle.climb.specs.Held.{held}
-use Rattle.climb.specs.declared.row.Row.{Row}
+use Rattle.arrayvec.specs.ArrayVec.{ArrayVec}
+use Rattle.std.specs.List.{find}
 use Rattle.climb.specs.Entries.{entry}
 use Rattle.climb.proofs.Covers.{covered_under, under_covered}
 use Rattle.climb.proofs.Full.{is}
@@ -42,21 +42,17 @@ module _ (image : Image) {n : ℕ} {ts : List Target} (v : Valid n ts) (hs : Lis
       go true e = ap left_at (lookup_some image (proof_of n ts hs) r (full n ts r) o ((is v r).whole o (covered_under ts r o e) l))
       go false e = ap left_at (lookup_none image (proof_of n ts hs) r (full n ts r) o (λ m. both_ways (covered ts (at_node r o)) e (under_covered ts r o ((is v r).sound o m).under)))
 
--- the loop that looks an item up: those that are left tell
-module _ (xs : List Item) (o i : ℕ) (d : Item) (ahead : lookup (drop i xs) o ≡ lookup xs o) where
-  pub looked_here : i < length xs → (get_or xs i d).place ≡ o → Some (get_or xs i d) ≡ lookup xs o
-  looked_here lt e =
-      sym (ap (λ (l : List Item). lookup l o) (drop_more xs i d lt) ∙ ap (λ (b : Bool). cond b (Some (get_or xs i d)) (lookup (drop (i + 1) xs) o)) (eq-eqb (get_or xs i d).place o e)) ∙ ahead
-
-  pub looked_past : i < length xs → ((get_or xs i d).place ≡ o → ⊥) → lookup (drop (i + 1) xs) o ≡ lookup xs o
-  looked_past lt e =
-      sym (ap (λ (l : List Item). lookup l o) (drop_more xs i d lt) ∙ ap (λ (b : Bool). cond b (Some (get_or xs i d)) (lookup (drop (i + 1) xs) o)) (ne_eqb (get_or xs i d).place o e)) ∙ ahead
-
-  pub looked_all : length xs ≤ i → None ≡ lookup xs o
-  looked_all ge = sym (ap (λ (l : List Item). lookup l o) (drop_all i xs ge)) ∙ ahead
+-- the search that looks an item up
+pub lookup_find : (xs : List Item) (o : ℕ) → find (λ x. eqb x.place o) xs ≡ lookup xs o
+lookup_find [] o = refl
+lookup_find (x ∷ xs) o = ap (cond (eqb x.place o) (Some x)) (lookup_find xs o)
 
 -- a table of empty rows
-pub empty_look : (n : ℕ) (e : Row) → held e ≡ [] → (row place : ℕ) → left_at (lookup (get_or (map held (replicate n e)) row []) place) ≡ None
-empty_look zero e h row place = refl
-empty_look (suc n) e h zero place = ap (λ (l : List Item). left_at (lookup l place)) h
-empty_look (suc n) e h (suc row) place = empty_look n e h row place
+abbrev pub items_of : ArrayVec Item → List Item
+items_of r = r.items
+
+pub empty_look : (rows : List (ArrayVec Item)) → ((k : ℕ) (d : ArrayVec Item) → k < length rows → (get_or rows k d).items ≡ []) → (row place : ℕ) → left_at (lookup (get_or (map items_of rows) row []) place) ≡ None
+empty_look rows h row place = ap (λ (l : List Item). left_at (lookup l place)) (elim (cases_lt row (length rows)) [
+  | inl l ↦ get_or-map items_of rows row (record { items = [] }) [] l ∙ h row (record { items = [] }) l
+  | inr g ↦ get_or_past (map items_of rows) row [] (let m = length-map rows items_of in omega arith)
+])

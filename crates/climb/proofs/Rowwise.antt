@@ -9,7 +9,7 @@ use Rattle.utreexo.specs.Lists.{below, any}
 use Rattle.utreexo.specs.Forest.{at_node, bit, tree_place}
 use Rattle.utreexo.specs.Claims.{Target, covered, target_at, Proof, proof_of, given, claim_at, claimed, after, root_claim, root_covered, fits_root, root_after}
 use Rattle.targets.proofs.Valid.{Valid}
-use Rattle.climb.specs.Rows.{top, front, pasts, spot, full, carried, used, merge, left_of, spent_item, step, met, renew}
+use Rattle.climb.specs.Rows.{stepped, top, front, pasts, spot, full, carried, used, merge, left_of, spent_item, step, met, renew}
 use Rattle.laws.proofs.Members.{mem_map}
 use Rattle.climb.proofs.Walk.{top_is, is_top, mem_ups}
 use Rattle.climb.proofs.Merged.{merge_map}
@@ -20,7 +20,7 @@ use Rattle.climb.proofs.Wanted.{absent_is}
 use Rattle.climb.proofs.Picked.{Fits, row_fits}
 use Rattle.climb.specs.Entries.{entry}
 use Rattle.climb.proofs.Claimed.{item_spent, no_target, clear_target, at_target, claim_spent, claim_given, claim_both}
-use Rattle.climb.proofs.Steps.{made, seen, Given, Both, step_is, seen_some, seen_none}
+use Rattle.climb.proofs.Steps.{seen, Given, Both, step_is, seen_some, seen_none}
 
 module _ (image : Image) {n : ℕ} {ts : List Target} (v : Valid n ts) (hs : List Value) where
   abbrev pub the_proof : Proof
@@ -69,7 +69,7 @@ module _ (image : Image) {n : ℕ} {ts : List Target} (v : Valid n ts) (hs : Lis
 
   -- (2) the step up
   pub row_stepped : (r : ℕ) → r < 32 → step image hs (n / 2 ^ r) (used n ts r) None (items_at r (full n ts r))
-      ≡ made (items_at (suc r) (carried n ts (suc r))) (seen image the_proof hs r (n / 2 ^ r) None (full n ts r)) (used n ts (suc r))
+      ≡ stepped (items_at (suc r) (carried n ts (suc r))) (seen image the_proof hs r (n / 2 ^ r) None (full n ts r)) (used n ts (suc r))
   row_stepped r l =
       step_is image the_proof hs r (n / 2 ^ r) 0 (full n ts r) (is v r).ascends (used n ts r) None (above r)
       (hash_given r (used n ts r) (absent n ts r) (λ q m. m) (row_fits v hs r l))

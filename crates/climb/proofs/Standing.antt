@@ -1,35 +1,22 @@
 -- The loops over the rows: what holds when a row begins.
-use Rattle.std.proofs.Common.{◌≡◌, ℕ, suc, ◌+◌, ◌*◌, ◌/◌, ◌^◌, ◌<◌, ◌≤◌, Bool, true, cond, not, ◌&&◌, ◌⊎◌, List, [], ◌∷◌, ◌++◌, map, length, get_or, take, drop, set, Some, None, Option, sym, refl, ap, ◌∙◌, subst, inl, inr, arith}
+use Rattle.std.proofs.Common.{◌≡◌, ℕ, suc, ◌+◌, ◌*◌, ◌/◌, ◌^◌, ◌<◌, ◌≤◌, Bool, true, cond, not, ◌&&◌, ◌⊎◌, List, [], ◌∷◌, ◌++◌, map, length, get_or, drop, set, Some, None, Option, sym, refl, ap, ◌∙◌, subst, inl, inr, arith}
 use Rattle.std.proofs.lemmas.Bool.{cases_eq}
-use Rattle.std.proofs.lemmas.List.{append_assoc, append-nil, drop_more, drop_all, length-take, length-drop, length-set, get_or-set_same, get_or-set_other, map_push}
+use Rattle.std.proofs.lemmas.List.{append_assoc, append-nil, drop_more, drop_all, length-set, get_or-set_same, get_or-set_other, map_push}
 use Rattle.utreexo.specs.declared.types.Value.{Value}
 use Rattle.climb.specs.declared.item.Item.{Item}
-use Rattle.targets.specs.declared.spend.Spend.{Spend}
 use Rattle.utreexo.specs.Values.{Image}
 use Rattle.utreexo.specs.Lists.{below, any}
 use Rattle.utreexo.specs.Forest.{at_node}
 use Rattle.utreexo.specs.Claims.{Target, proof_of, covered, claim_at, after, needed, fits_root, fits, root_after}
 use Rattle.targets.proofs.Valid.{Valid}
-use Rattle.climb.specs.Rows.{front, past, pasts, full, carried, used, merge, left_of, Stepped, spent_item, step, met, renew, lookup}
+use Rattle.climb.specs.Rows.{front, past, pasts, full, carried, used, merge, left_of, Stepped, stepped, spent_item, step, met, renew, lookup}
 use Rattle.climb.specs.After.{left_at}
-use Rattle.targets.specs.Spends.{target_of, targets}
-use Rattle.climb.specs.Held.{spents, Counted}
 use Rattle.climb.specs.Entries.{entry}
 use Rattle.laws.proofs.Ranges.{length_map_below}
-use Rattle.climb.proofs.Steps.{made}
 use Rattle.climb.proofs.Picked.{used_all}
 use Rattle.climb.proofs.Lookups.{found_left}
-use Rattle.climb.proofs.Merged.{length_merge}
 use Rattle.targets.proofs.Inside.{row_low}
 use Rattle.climb.proofs.Rowwise.{row_merged, row_stepped, row_aside, set_aside, row_fits_root, row_root_after, fits_more}
-
-spents_targets : (image : Image) (ss : List Spend) → spents image ss ≡ map (spent_item image) (targets ss)
-spents_targets image [] = refl
-spents_targets image (s ∷ ss) = ap (λ (l : List Item). spent_item image (target_of s) ∷ l) (spents_targets image ss)
-
-pub length_spents : (image : Image) (ss : List Spend) → length (spents image ss) ≡ length ss
-length_spents image [] = refl
-length_spents image (s ∷ ss) = ap suc (length_spents image ss)
 
 set_mid : {A : Type 0} (xs : List A) (y : A) (ys : List A) (z : A) → set (xs ++ (y ∷ ys)) (length xs) z ≡ xs ++ (z ∷ ys)
 set_mid [] y ys z = refl
@@ -49,15 +36,14 @@ write_more f roots now r d z lt e q =
 
 module _ (image : Image) (n : ℕ) (ts : List Target) (hs : List Value) where
   -- the items that come up from the row below, the targets that are left, and the number of the next hash, when row r begins
-  pub record Rising (r : ℕ) (items : List Item) (left : List Spend) (next : ℕ) : Type 0 where
-    pub few : length items + length left ≤ 32
+  pub record Rising (r : ℕ) (items : List Item) (left : List Target) (next : ℕ) : Type 0 where
     pub items_are : items ≡ map (entry image (proof_of n ts hs) r) (carried n ts r)
-    pub left_is : targets left ≡ pasts r ts
+    pub left_is : left ≡ pasts r ts
     pub next_is : next ≡ used n ts r
     pub next_low : next ≤ 32 * r
 
   -- and whether the roots so far fit, the roots so far, and the table's rows so far
-  pub record Standing (roots : List (Option Value)) (r : ℕ) (items : List Item) (left : List Spend) (next : ℕ) (fitting : Bool) (roots_now : List (Option Value)) (table : List (List Item)) : Type 0 where
+  pub record Standing (roots : List (Option Value)) (r : ℕ) (items : List Item) (left : List Target) (next : ℕ) (fitting : Bool) (roots_now : List (Option Value)) (table : List (List Item)) : Type 0 where
     pub rising : Rising r items left next
     pub fitting_is : fitting ≡ not (any (λ k. not (fits_root image (proof_of n ts hs) roots k)) (below r))
     pub size : length roots_now ≡ 32
@@ -73,87 +59,63 @@ module _ (image : Image) (n : ℕ) (ts : List Target) (hs : List Value) where
     pub all_told : (r o : ℕ) → o < n / 2 ^ r → left_at (lookup (get_or table r []) o) ≡ cond (covered ts (at_node r o)) (Some (after image (claim_at (proof_of n ts hs) r o))) None
 
 module _ {image : Image} {n : ℕ} {ts : List Target} {hs : List Value} where
-  pub rising_none : {items : List Item} {left : List Spend} → items ≡ [] → targets left ≡ ts → length left ≤ 32 → Rising image n ts hs 0 items left 0
-  rising_none {items} e f l = let k = ap length e in record { few = omega arith; items_are = e; left_is = f; next_is = refl; next_low = omega arith }
+  pub rising_none : {items : List Item} {left : List Target} {next : ℕ} → items ≡ [] → left ≡ ts → next ≡ 0 → Rising image n ts hs 0 items left next
+  rising_none e f g = record { items_are = e; left_is = f; next_is = g; next_low = omega arith }
 
   -- a row's targets are merged in, and the row is taken up
-  module _ (v : Valid n ts) {r : ℕ} {items : List Item} {left : List Spend} {next : ℕ} (was : Rising image n ts hs r items left next) (low : r < 32)
-      (k : ℕ) (part : Counted r left k) (here higher : List Spend) (here_is : here ≡ take k left) (higher_is : higher ≡ drop k left) where
-    pub merged_is : merge left_of items (spents image here) ≡ map (entry image (proof_of n ts hs) r) (full n ts r)
+  module _ (v : Valid n ts) {r : ℕ} {items : List Item} {left : List Target} {next : ℕ} (was : Rising image n ts hs r items left next) (low : r < 32)
+      {merged : List Item} (merged_so : merged ≡ merge left_of items (map (spent_item image) (front r left))) where
+    pub merged_is : merged ≡ map (entry image (proof_of n ts hs) r) (full n ts r)
     merged_is =
-        ap (λ (l : List Item). merge left_of l (spents image here)) was.items_are
-        ∙ ap (merge left_of (map (entry image (proof_of n ts hs) r) (carried n ts r)))
-        (spents_targets image here ∙ ap (λ (l : List Spend). map (spent_item image) (targets l)) here_is ∙ ap (map (spent_item image)) (part.taken ∙ ap (front r) was.left_is))
+        merged_so ∙ ap (λ (l : List Item). merge left_of l (map (spent_item image) (front r left))) was.items_are
+        ∙ ap (λ l. merge left_of (map (entry image (proof_of n ts hs) r) (carried n ts r)) (map (spent_item image) (front r l))) was.left_is
         ∙ row_merged image v hs r
 
-    abbrev risen : Stepped
-    risen = made (map (entry image (proof_of n ts hs) (suc r)) (carried n ts (suc r))) (set_aside image v hs r) (used n ts (suc r))
-
-    stepped : (merged : List Item) → merged ≡ merge left_of items (spents image here) → step image hs (n / 2 ^ r) next None merged ≡ risen
-    stepped merged e =
-        ap (step image hs (n / 2 ^ r) next None) (e ∙ merged_is) ∙ ap (λ (x : ℕ). step image hs (n / 2 ^ r) x None (map (entry image (proof_of n ts hs) r) (full n ts r))) was.next_is
-        ∙ row_stepped image v hs r low
-        ∙ ap (λ (a : Option Item). made (map (entry image (proof_of n ts hs) (suc r)) (carried n ts (suc r))) a (used n ts (suc r))) (row_aside image v hs r)
-
-    pub merged_few : length (merge left_of items (spents image here)) ≤ length items + length here
-    merged_few = let a = length_merge left_of items (spents image here) in let b = length_spents image here in omega arith
-
-    pub merged_low : length (merge left_of items (spents image here)) ≤ 32
-    merged_low = let a = merged_few in let b = ap length here_is in let c = length-take k left in let d = was.few in let e = part.within in omega arith
-
-    module _ (merged : List Item) (merged_so : merged ≡ merge left_of items (spents image here)) (parents : List Item) (aside : Option Item) (next' : ℕ)
-        (made_so : made parents aside next' ≡ step image hs (n / 2 ^ r) next None merged) (bound : next' ≤ next + length merged) (room : length parents ≤ length merged) where
-      made_is : made parents aside next' ≡ risen
-      made_is = made_so ∙ stepped merged merged_so
+    module _ {parents : List Item} {aside : Option Item} {next' : ℕ} (made_so : stepped parents aside next' ≡ step image hs (n / 2 ^ r) next None merged) where
+      made_is : stepped parents aside next' ≡ stepped (map (entry image (proof_of n ts hs) (suc r)) (carried n ts (suc r))) (set_aside image v hs r) (used n ts (suc r))
+      made_is =
+          made_so ∙ ap (step image hs (n / 2 ^ r) next None) merged_is
+          ∙ ap (λ (x : ℕ). step image hs (n / 2 ^ r) x None (map (entry image (proof_of n ts hs) r) (full n ts r))) was.next_is
+          ∙ row_stepped image v hs r low
+          ∙ ap (λ (a : Option Item). stepped (map (entry image (proof_of n ts hs) (suc r)) (carried n ts (suc r))) a (used n ts (suc r))) (row_aside image v hs r)
 
       pub aside_is : aside ≡ set_aside image v hs r
       aside_is = ap (λ (s : Stepped). s.aside) made_is
 
-      pub rising_more : Rising image n ts hs (r + 1) parents higher next'
-      rising_more =
+      pub rising_more : {left' : List Target} → left' ≡ past r left → next' ≤ next + 32 → Rising image n ts hs (r + 1) parents left' next'
+      rising_more {left'} e bound =
           let one : suc r ≡ r + 1 = omega arith in
-          let a = length-take k left in
-          let b = length-drop k left in
-          let c = ap length here_is in
-          let d = ap length higher_is in
-          let e = ap length merged_so in
-          let f = merged_few in
-          let inside = part.within in
-          let w = was.few in
           let u = was.next_low in
-          subst (λ (x : ℕ). Rising image n ts hs x parents higher next') one
+          subst (λ (x : ℕ). Rising image n ts hs x parents left' next') one
           (record {
-            few = omega arith;
             items_are = ap (λ (s : Stepped). s.parents) made_is;
-            left_is = ap targets higher_is ∙ part.rest ∙ ap (past r) was.left_is;
+            left_is = e ∙ ap (past r) was.left_is;
             next_is = ap (λ (s : Stepped). s.next) made_is;
             next_low = omega arith;
           })
 
   module _ {roots : List (Option Value)} where
-    pub standing_none : {items : List Item} {left : List Spend} {table : List (List Item)} → items ≡ [] → targets left ≡ ts → length left ≤ 32 → length roots ≡ 32 → length table ≡ 32
-        → Standing image n ts hs roots 0 items left 0 true roots table
-    standing_none e f l s t = record { rising = rising_none e f l; fitting_is = refl; size = s; roots_are = refl; tall = t; told = λ j less. absurd (omega arith) }
+    pub standing_none : {items : List Item} {left : List Target} {next : ℕ} {table : List (List Item)} → items ≡ [] → left ≡ ts → next ≡ 0 → length roots ≡ 32 → length table ≡ 32
+        → Standing image n ts hs roots 0 items left next true roots table
+    standing_none e f g s t = record { rising = rising_none e f g; fitting_is = refl; size = s; roots_are = refl; tall = t; told = λ j less. absurd (omega arith) }
 
-    pub standing_more : (v : Valid n ts) {r : ℕ} {items : List Item} {left : List Spend} {next : ℕ} {fitting : Bool} {roots_now : List (Option Value)} {table : List (List Item)}
+    pub standing_more : (v : Valid n ts) {r : ℕ} {items : List Item} {left : List Target} {next : ℕ} {fitting : Bool} {roots_now : List (Option Value)} {table : List (List Item)}
         → Standing image n ts hs roots r items left next fitting roots_now table → r < 32 → length roots ≡ 32
-        → (k : ℕ) (part : Counted r left k) (here higher : List Spend) (here_is : here ≡ take k left) (higher_is : higher ≡ drop k left)
-        → (merged : List Item) → merged ≡ merge left_of items (spents image here) → (parents : List Item) (aside : Option Item) (next' : ℕ)
-        → made parents aside next' ≡ step image hs (n / 2 ^ r) next None merged → next' ≤ next + length merged → length parents ≤ length merged
-        → (m : Bool) → m ≡ met aside (get_or roots r None) → (fitting' : Bool) → fitting' ≡ (fitting && m)
-        → (z : Option Value) → z ≡ renew aside (get_or roots r None) → (table' : List (List Item)) → table' ≡ set table r merged
-        → Standing image n ts hs roots (r + 1) parents higher next' fitting' (set roots_now r z) table'
-    standing_more v {r} {items} {left} {next} {fitting} {roots_now} {table} w low whole k part here higher he ge merged me parents aside next' e bound room m ml fitting' se z ze table' te =
+        → {merged : List Item} → merged ≡ merge left_of items (map (spent_item image) (front r left)) → {parents : List Item} {aside : Option Item} {next' : ℕ}
+        → stepped parents aside next' ≡ step image hs (n / 2 ^ r) next None merged → {left' : List Target} → left' ≡ past r left → next' ≤ next + 32
+        → {fitting' : Bool} → fitting' ≡ (fitting && met aside (get_or roots r None)) → {z : Option Value} → z ≡ renew aside (get_or roots r None)
+        → {table' : List (List Item)} → table' ≡ set table r merged → Standing image n ts hs roots (r + 1) parents left' next' fitting' (set roots_now r z) table'
+    standing_more v {r} {items} {left} {next} {fitting} {roots_now} {table} w low whole {merged} me {parents} {aside} {next'} e le bound se {z} ze {table'} te =
         let one : r + 1 ≡ suc r = omega arith in
-        let up = rising_more v w.rising low k part here higher he ge merged me parents aside next' e bound room in
-        let aside_so = aside_is v w.rising low k part here higher he ge merged me parents aside next' e bound room in
-        let met_is : m ≡ fits_root image (proof_of n ts hs) roots r = ml ∙ ap (λ (a : Option Item). met a (get_or roots r None)) aside_so ∙ sym (row_fits_root image v hs roots r) in
+        let up = rising_more v w.rising low me e le bound in
+        let aside_so = aside_is v w.rising low me e in
+        let met_is : met aside (get_or roots r None) ≡ fits_root image (proof_of n ts hs) roots r = ap (λ (a : Option Item). met a (get_or roots r None)) aside_so ∙ sym (row_fits_root image v hs roots r) in
         let z_is : z ≡ root_after image (proof_of n ts hs) roots r = ze ∙ ap (λ (a : Option Item). renew a (get_or roots r None)) aside_so ∙ sym (row_root_after image v hs roots r) in
-        let row_is : merged ≡ map (entry image (proof_of n ts hs) r) (full n ts r) = me ∙ merged_is v w.rising low k part here higher he ge in
+        let row_is = merged_is v w.rising low me in
         let high = w.tall in
         record {
           rising = up;
-          fitting_is = se ∙ ap (λ (x : Bool). x && m) w.fitting_is ∙ ap (λ (x : Bool). not (any (λ j. not (fits_root image (proof_of n ts hs) roots j)) (below r)) && x) met_is
+          fitting_is = se ∙ ap (λ (x : Bool). x && met aside (get_or roots r None)) w.fitting_is ∙ ap (λ (x : Bool). not (any (λ j. not (fits_root image (proof_of n ts hs) roots j)) (below r)) && x) met_is
               ∙ sym (fits_more image v hs roots r) ∙ ap (λ x. not (any (λ j. not (fits_root image (proof_of n ts hs) roots j)) (below x))) (sym one);
           size = length-set roots_now r z ∙ w.size;
           roots_are = write_more (root_after image (proof_of n ts hs) roots) roots roots_now r None z (omega arith) w.roots_are z_is
@@ -169,7 +131,7 @@ module _ {image : Image} {n : ℕ} {ts : List Target} {hs : List Value} where
             ∙ ap (λ x. map (entry image (proof_of n ts hs) x) (full n ts x)) (sym q)
         tell j (inr q) less row_is high = ap (λ (l : List (List Item)). get_or l j []) te ∙ get_or-set_other table r j merged [] q ∙ w.told j (omega arith)
 
-    pub standing_all : (v : Valid n ts) → length roots ≡ 32 → {r : ℕ} {items : List Item} {left : List Spend} {next : ℕ} {fitting : Bool} {roots_now : List (Option Value)} {table : List (List Item)}
+    pub standing_all : (v : Valid n ts) → length roots ≡ 32 → {r : ℕ} {items : List Item} {left : List Target} {next : ℕ} {fitting : Bool} {roots_now : List (Option Value)} {table : List (List Item)}
         → Standing image n ts hs roots r items left next fitting roots_now table → r ≡ 32 → Done image n ts hs roots next fitting roots_now table
     standing_all v whole {r} {items} {left} {next} {fitting} {roots_now} {table} w e = last (subst (λ (x : ℕ). Standing image n ts hs roots x items left next fitting roots_now table) e w)
       where

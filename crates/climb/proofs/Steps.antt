@@ -6,17 +6,11 @@ use Rattle.climb.specs.declared.item.Item.{Item}
 use Rattle.laws.proofs.Order.{Mem, From}
 use Rattle.utreexo.specs.Values.{Image}
 use Rattle.utreexo.specs.Claims.{Proof, no_value, given, both, claim_at}
-use Rattle.climb.specs.Rows.{top, beside, ups, lones, sib, Stepped, before, twin, lone, step}
+use Rattle.climb.specs.Rows.{top, beside, ups, lones, sib, Stepped, stepped, before, twin, lone, step}
 use Rattle.climb.proofs.Walk.{walk, alone, beside_is, top_is, ups_root, ups_pair, ups_lone, lones_root, lones_pair, lones_lone}
 use Rattle.climb.specs.Entries.{entry}
+use Rattle.climb.specs.Held.{alone_item}
 use Rattle.climb.proofs.Claimed.{item_both, item_left, item_right}
-
-abbrev pub alone_item : Item → List Item → Bool
-alone_item x [] = true
-alone_item x (y ∷ ys) = not (beside x.place y.place)
-
-abbrev pub made : List Item → Option Item → ℕ → Stepped
-made ps a n = record { parents = ps; aside = a; next = n }
 
 module _ (image : Image) (hs : List Value) (w : ℕ) where
   pub step_root : (k : ℕ) (a : Option Item) (x : Item) (xs : List Item) → top w x.place ≡ true → step image hs w k a (x ∷ xs) ≡ step image hs w k (Some x) xs
@@ -51,7 +45,7 @@ module _ (image : Image) (p : Proof) (hs : List Value) (r w : ℕ) where
   Both z = top w z ≡ false → claim_at p (suc r) (z / 2) ≡ both (claim_at p r (2 * (z / 2))) (claim_at p r (2 * (z / 2) + 1))
 
   abbrev result : ℕ → Option Item → List ℕ → Stepped
-  result k a xs = made (map (entry image p (suc r)) (ups w xs)) (seen a xs) (k + length (lones w xs))
+  result k a xs = stepped (map (entry image p (suc r)) (ups w xs)) (seen a xs) (k + length (lones w xs))
 
   alone_map : (x : ℕ) (xs : List ℕ) → alone x xs ≡ true → alone_item (entry image p r x) (map (entry image p r) xs) ≡ true
   alone_map x [] e = refl
@@ -100,7 +94,7 @@ module _ (image : Image) (p : Proof) (hs : List Value) (r w : ℕ) where
       → step image hs w k s (map (entry image p r) xs) ≡ result k s xs
   step_is =
       walk w (λ a xs. (k : ℕ) (s : Option Item) → ((z : ℕ) → Mem z xs → Both z) → Given k (lones w xs) → step image hs w k s (map (entry image p r) xs) ≡ result k s xs)
-      (λ a k s b g. ap (λ (x : ℕ). made [] s x) (zero_more k))
+      (λ a k s b g. ap (λ (x : ℕ). stepped [] s x) (zero_more k))
       (λ a x xs l t f ih k s b g.
       step_root image hs w k s (entry image p r x) (map (entry image p r) xs) t
       ∙ ih k (Some (entry image p r x)) (λ z m. b z (inr m)) (subst (λ (q : List ℕ). Given k q) (lones_root w x xs t) g)
@@ -115,7 +109,7 @@ module _ (image : Image) (p : Proof) (hs : List Value) (r w : ℕ) where
       step_lone image hs w k s (entry image p r x) (map (entry image p r) xs) t (alone_map x xs c)
       ∙ ap (before (lone image (entry image p r x) (get_or hs k no_value))) (ih (k + 1) s (λ z m. b z (inr m)) g'.1)
       ∙ ap (λ (i : Item). before i (result (k + 1) s xs)) (sym (above_one x (get_or hs k no_value) g'.0 (b x (inl refl) t)))
-      ∙ ap (λ (j : ℕ). made (map (entry image p (suc r)) (x / 2 ∷ ups w xs)) (seen s xs) j) (one_more k (length (lones w xs)))
+      ∙ ap (λ (j : ℕ). stepped (map (entry image p (suc r)) (x / 2 ∷ ups w xs)) (seen s xs) j) (one_more k (length (lones w xs)))
       ∙ sym (same k (ups_lone w x xs t c) (seen_more s x xs t) (lones_lone w x xs t c)))
     where
       zero_more : (k : ℕ) → k ≡ k + 0
@@ -125,7 +119,7 @@ module _ (image : Image) (p : Proof) (hs : List Value) (r w : ℕ) where
       one_more k m = omega arith
 
       same : (k : ℕ) {us us' : List ℕ} {s s' : Option Item} {ls ls' : List ℕ} → us ≡ us' → s ≡ s' → ls ≡ ls'
-          → made (map (entry image p (suc r)) us) s (k + length ls) ≡ made (map (entry image p (suc r)) us') s' (k + length ls')
+          → stepped (map (entry image p (suc r)) us) s (k + length ls) ≡ stepped (map (entry image p (suc r)) us') s' (k + length ls')
       same k e f g = cc
 
   pub seen_same : (o : ℕ) → top w o ≡ true → (xs : List ℕ) → seen (Some (entry image p r o)) xs ≡ Some (entry image p r o)

@@ -7,10 +7,9 @@ use Rattle.utreexo.specs.Claims.{Proof, covered, claim_at, after}
 use Rattle.climb.specs.declared.after.AfterValues.{AfterValues}
 use Rattle.climb.specs.declared.item.Item.{Item}
 use Rattle.climb.specs.Rows.{lookup}
-use Rattle.climb.specs.Held.{held}
 
 abbrev pub row_lists : AfterValues → List (List Item)
-row_lists t = map held t.rows
+row_lists t = map (λ r. r.items) t.rows
 
 abbrev pub left_at : Option Item → Option (Option Value)
 left_at None = None

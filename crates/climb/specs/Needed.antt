@@ -1,12 +1,12 @@
 -- The needed positions that the code finds.
-use Rattle.std.specs.Prelude.{ℕ, List, map, take}
+use Rattle.std.specs.Prelude.{ℕ, List, map}
 use Rattle.utreexo.specs.Forest.{Node, position}
 use Rattle.place.specs.Nodes.{node_of}
 use Rattle.climb.specs.declared.item.Item.{Item}
 use Rattle.climb.specs.declared.needed.Needed.{Needed}
 
 abbrev pub nodes_of : Needed → List Node
-nodes_of t = map node_of (take t.len t.nodes)
+nodes_of t = map node_of t.nodes.items
 
 -- their numbers in a forest of n slots
 abbrev pub numbered : ℕ → List Node → List ℕ

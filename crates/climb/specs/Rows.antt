@@ -21,6 +21,7 @@ ups w [] = []
 ups w (x ∷ []) = cond (top w x) [] (x / 2 ∷ [])
 ups w (x ∷ (y ∷ ys)) = cond (top w x) (ups w (y ∷ ys)) (cond (beside x y) (x / 2 ∷ ups w ys) (x / 2 ∷ ups w (y ∷ ys)))
 
+-- the sibling as plain arithmetic, which proofs compute with: it is the Forest's (sibling_is in proofs/Wanted)
 abbrev pub sib : ℕ → ℕ
 sib o = 2 * (o / 2) + (1 - o % 2)
 
@@ -89,6 +90,9 @@ pub record Stepped : Type 0 where
   pub parents : List Item
   pub aside : Option Item
   pub next : ℕ
+
+abbrev pub stepped : List Item → Option Item → ℕ → Stepped
+stepped ps a n = record { parents = ps; aside = a; next = n }
 
 abbrev pub before : Item → Stepped → Stepped
 before p s = record { parents = p ∷ s.parents; aside = s.aside; next = s.next }

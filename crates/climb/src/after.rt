@@ -1,10 +1,10 @@
 // The after-values of a block.
 ghost use Rattle.std.specs.Prelude.{◌≡◌, length};
 
-use crate::row::Row;
+use crate::item::Row;
 
 // The covered places, row by row.
-#[derive(Clone, Copy)]
+#[derive(Drop)]
 pub struct AfterValues {
     rows: [Row; 32],
     ghost whole: { length rows ≡ 32 },

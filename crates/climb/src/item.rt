@@ -1,10 +1,14 @@
 // What a proof claims of one place.
+use arrayvec::ArrayVec;
 use utreexo::types::Value;
 
 // A covered place of a row: the value that is claimed there, and the after-value, which is left once the targets are spent.
-#[derive(Clone, Copy)]
+#[derive(Clone, Copy, Default)]
 pub struct Item {
     pub place: u32,
     pub claim: Value,
     pub left: Option<Value>,
 }
+
+// The covered places of one row: at most 32, since each has a target at it or beneath it.
+pub(crate) type Row = ArrayVec<Item, 32>;

@@ -4,8 +4,9 @@
 mod above;
 pub mod after;
 pub mod climb;
+mod hashes;
 pub mod item;
 pub mod needed;
 mod no_values;
-pub mod row;
+mod rise;
 mod step;

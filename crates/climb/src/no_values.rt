@@ -9,17 +9,6 @@ use utreexo::types::{Coin, Value};
 // Where positions alone are wanted, every value is zero, so that the rows of a climb cost no compression.
 pub(crate) struct NoValues;
 
-fn zero() -> Value
-    ensures { result ≡ no_value }
-{
-    Value {
-        w0: 0,
-        w1: 0,
-        w2: 0,
-        w3: 0,
-    }
-}
-
 impl Compression for NoValues {
     // no script names it
     const NUMBER: u8 = 0;
@@ -31,10 +20,10 @@ impl Compression for NoValues {
     ghost fits = { Prim.search rules };
 
     fn leaf(_coin: Coin) -> Value {
-        zero()
+        Value::default()
     }
 
     fn pair(_left: Value, _right: Value) -> Value {
-        zero()
+        Value::default()
     }
 }

@@ -1,20 +1,11 @@
 -- Records read one after the other.
-use Rattle.std.proofs.Common.{◌≡◌, ℕ, zero, suc, ◌+◌, ◌-◌, ◌*◌, ◌/◌, ◌<◌, ◌≤◌, List, [], ◌∷◌, ◌++◌, map, length, get_or, take, drop, set, sym, refl, ap, ◌∙◌, subst, mul-zero, mul-suc, arith}
+use Rattle.std.proofs.Common.{◌≡◌, ℕ, suc, ◌+◌, ◌-◌, ◌*◌, ◌/◌, ◌<◌, ◌≤◌, List, [], ◌∷◌, ◌++◌, map, length, get_or, take, drop, set, sym, ap, ◌∙◌, subst, arith}
 use Rattle.std.proofs.lemmas.List.{take_more_set, map_push, drop-drop, length-take, length-drop, get_or-take, take_all}
 use Rattle.std.proofs.lemmas.Nat.{le-div}
 use Rattle.std.specs.Simd.{first_chunks}
 use Rattle.utreexo.specs.Bytes.{Bytes, part}
 use Rattle.utreexo.specs.Lists.{below}
-
--- the chunk of number i
-pub chunk_at : (n k i : ℕ) (bytes d : Bytes) → i < k → get_or (first_chunks n k bytes) i d ≡ part (n * i) n bytes
-chunk_at n zero i bytes d l = absurd (omega arith)
-chunk_at n (suc k) zero bytes d l = ap (λ i. part i n bytes) (sym (mul-zero n))
-chunk_at n (suc k) (suc i) bytes d l = chunk_at n k i (drop n bytes) d (omega arith) ∙ ap (take n) (drop-drop (n * i) n bytes) ∙ ap (λ i. part i n bytes) (let m = mul-suc n i in omega arith)
-
-length_chunks : (n k : ℕ) (bytes : Bytes) → length (first_chunks n k bytes) ≡ k
-length_chunks n zero bytes = refl
-length_chunks n (suc k) bytes = ap suc (length_chunks n k (drop n bytes))
+use Rattle.climb.proofs.Chunks.{chunk_at, length_chunks}
 
 module _ {A : Type 0} (size : ℕ) (read : Bytes → A) (bytes : Bytes) (start : ℕ) where
   -- the record of number i

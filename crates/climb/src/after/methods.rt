@@ -1,24 +1,17 @@
 // Filling the table of after-values, and looking one up.
-ghost use Rattle.std.specs.Prelude.{◌≡◌, ℕ, ◌<◌, [], None, slice_set};
+ghost use Rattle.std.specs.Prelude.{◌≡◌, ℕ, ◌<◌, None, slice_set};
 ghost use Rattle.climb.specs.Rows.{lookup};
-ghost use Rattle.climb.specs.Held.{held};
 ghost use Rattle.climb.specs.After.{row_lists, look};
 
 use super::AfterValues;
-use crate::item::Item;
-use crate::row::Row;
+use crate::item::{Item, Row};
 use utreexo::types::Value;
 
 // The item at a place of a row.
 fn item_at(items: &[Item], place: u32) -> Option<Item>
     ensures { result ≡ lookup items.now place }
 {
-    for item in items {
-        if item.place == place {
-            return Some(*item);
-        }
-    }
-    None
+    items.iter().find(|item| item.place == place).copied()
 }
 
 impl AfterValues {
@@ -27,13 +20,13 @@ impl AfterValues {
         ensures { (row place : ℕ) → look result row place ≡ None }
     {
         AfterValues {
-            rows: [Row::empty(); 32],
+            rows: Default::default(),
         }
     }
 
     pub(crate) fn set_row(&mut self, row: u8, items: Row)
         requires { row < 32 }
-        ensures { row_lists self.new ≡ slice_set (row_lists self.old) row (held items) }
+        ensures { row_lists self.new ≡ slice_set (row_lists self.old) row items.items }
     {
         self.rows[row as usize] = items;
     }
@@ -42,13 +35,7 @@ impl AfterValues {
     pub fn at(&self, row: u8, place: u32) -> Option<Option<Value>>
         ensures { result ≡ look self.now row place }
     {
-        if row >= 32 {
-            return None;
-        }
-        let items = self.rows[row as usize];
-        match item_at(items.as_slice(), place) {
-            None => None,
-            Some(item) => Some(item.left),
-        }
+        let items = self.rows.get(row as usize)?;
+        item_at(items.as_slice(), place).map(|item| item.left)
     }
 }

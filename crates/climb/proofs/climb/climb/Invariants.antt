@@ -1,5 +1,7 @@
+use Rattle.std.proofs.Common.{◌≡◌}
 use Rattle.climb.specs.After.{row_lists}
-use Rattle.climb.specs.Held.{held, hashes_in}
+use Rattle.climb.specs.Held.{hashes_in}
+use Rattle.targets.specs.Spends.{targets}
 use Rattle.targets.specs.Targets.{placed}
 use Rattle.climb.proofs.Standing.{Standing}
 use Rattle.climb.proofs.climb.climb.Given as goal
@@ -7,4 +9,5 @@ use Rattle.climb.proofs.climb.climb.Given as goal
 abbrev pub invariant-loop-row : goal.invariant-loop-row
 invariant-loop-row g l =
     Standing g.C.Compression.image l.targets.count (placed l.targets) (hashes_in l.hashes) l.roots
-    l.row (held l.carried) l.left l.next l.fitting l.roots_after (row_lists l.after)
+    l.row l.rise.carried.items (targets l.rise.left.now) l.rise.hashes.used l.fitting l.roots_after (row_lists l.after)
+    × (l.rise.count ≡ l.targets.count) × (l.rise.hashes.bytes.now ≡ l.hashes)

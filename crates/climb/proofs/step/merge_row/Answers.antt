@@ -1,18 +1,25 @@
-use Rattle.std.proofs.Common.{arith}
-use Rattle.climb.proofs.Merging.{left_within, merging_left, merging_right, merging_rest, merging_all}
+use Rattle.std.proofs.Common.{◌≡◌, ltb, get_or, length, take, ◌++◌, rules, tests, ◌∙◌}
+use Rattle.std.proofs.lemmas.Iterator.{YieldsList-from_slice}
+use Rattle.std.proofs.lemmas.Iterator.Consumers.{count_from_yields_List}
+use Rattle.std.proofs.lemmas.Iterator.Search.{YieldsList-from_take_while}
+use Rattle.std.proofs.lemmas.List.Folds.{length-prefix_len}
+use Rattle.climb.specs.declared.item.Item.{Item}
+use Rattle.targets.specs.declared.spend.Spend.{Spend}
+use Rattle.climb.proofs.Merging.{before, merging_more, merging_all}
 use Rattle.climb.proofs.step.merge_row.Goals as goal
 
-pub loop-j-smaller-in-Some : goal.loop-j-smaller-in-Some
-loop-j-smaller-in-Some g c = let l = left_within c.args.carried.now c.loop-j.i _ _ c.in-Some.ensures in omega arith
-
-pub loop-j-preserved-in-Some : goal.loop-j-preserved-in-Some
-loop-j-preserved-in-Some g c = merging_left c.loop-j.invariant _ c.loop-j-test.true _ c.in-Some.ensures _ c.push.ensures
-
-pub loop-j-preserved : goal.loop-j-preserved
-loop-j-preserved g c = merging_right c.loop-j.invariant _ c.loop-j-test.true c.in_default.ensures _ c.spent_item.ensures _ c.push-in_default.ensures
-
-pub loop-i-preserved : goal.loop-i-preserved
-loop-i-preserved g c = merging_rest c.loop-i.invariant _ c.loop-j-test.false c.loop-i-test.true _ c.push-in-loop-i.ensures
+pub loop-spend-preserved : goal.loop-spend-preserved
+loop-spend-preserved g c =
+    let xs = c.loop-spend.rest.now in
+    let none : Spend = record { node = record { row = 0; place = 0 }; coin = record { w0 = 0; w1 = 0; w2 = 0; w3 = 0 } } in
+    let o = (get_or c.args.spends.now c.loop-spend.spend-index none).node.place in
+    let here : c.try_extend_from_slice.new.self.items ≡ c.loop-spend.row.items ++ c.split_at.result.0.now = search rules in
+    let left : c.count-left.result ≡ length (take (before o xs) xs) =
+    count_from_yields_List _ _ c.count-left.ensures.ran
+    (YieldsList-from_take_while _ (λ x. ltb x.place o) (YieldsList-from_slice xs (cc)) c.take_while.ensures.closure c.take_while.ensures.done (λ x b q k. search (rules, tests))) in
+    merging_more c.loop-spend.invariant none c.loop-spend-test.true (left ∙ length-prefix_len (λ (x : Item). ltb x.place o) xs) c.split_at.ensures.front c.split_at.ensures.back here c.spent_item.ensures c.push.ensures.items
 
 pub returns : goal.returns
-returns g c = merging_all c.loop-i.invariant c.loop-j-test.false c.loop-i-test.false
+returns g c =
+    let all : c.try_extend_from_slice-2.new.self.items ≡ c.loop-spend.row.items ++ c.loop-spend.rest.now = search rules in
+    all ∙ merging_all c.loop-spend.invariant c.loop-spend-test.false

@@ -1,16 +1,18 @@
-use Rattle.std.proofs.Common.{arith}
-use Rattle.climb.proofs.Going.{going_root, going_both, going_lone, going_all}
+use Rattle.climb.proofs.Going.{going_root, going_both, going_lone}
+use Rattle.std.proofs.Common.{ℕ, List, get_or, ap, ◌∙◌}
+use Rattle.utreexo.specs.Claims.{no_value}
+use Rattle.climb.specs.Held.{hashes_in}
 use Rattle.climb.proofs.step.step_row.Goals as goal
 
-pub loop-i-preserved-then-is_top : goal.loop-i-preserved-then-is_top
-loop-i-preserved-then-is_top g c = going_root c.loop-i.invariant _ c.loop-i-test.true c.if-is_top.ensures
+pub loop-item-preserved-then-is_top : goal.loop-item-preserved-then-is_top
+loop-item-preserved-then-is_top g c = (going_root c.loop-item.invariant.0 c.in-Some.ensures.cases.0 c.if-is_top.ensures, c.loop-item.invariant.1)
 
-pub loop-i-preserved-in-Some : goal.loop-i-preserved-in-Some
-loop-i-preserved-in-Some g c = going_both c.loop-i.invariant _ c.loop-i-test.true c.if-is_top.ensures _ c.in-Some.ensures _ _ c.above_two.ensures c.push.ensures
+pub loop-item-preserved-in-Some-split_sibling : goal.loop-item-preserved-in-Some-split_sibling
+loop-item-preserved-in-Some-split_sibling g c =
+    (going_both c.loop-item.invariant.0 c.in-Some.ensures.cases.0 c.if-is_top.ensures c.in-Some-split_sibling.ensures.0 c.in-Some-split_sibling.ensures.1 c.above_two.ensures c.push.ensures.items, c.loop-item.invariant.1)
 
-pub loop-i-preserved : goal.loop-i-preserved
-loop-i-preserved g c =
-    going_lone c.loop-i.invariant _ c.loop-i-test.true c.if-is_top.ensures c.in_default.ensures _ c.hash_at.ensures _ _ c.above_one.ensures c.push-in_default.ensures
-
-pub returns : goal.returns
-returns g c = let i = c.loop-i.invariant in let t = c.loop-i-test.false in record { made = going_all i t; count = omega arith; room = omega arith }
+pub loop-item-preserved : goal.loop-item-preserved
+loop-item-preserved g c = (
+  going_lone c.loop-item.invariant.0 c.in-Some.ensures.cases.0 c.if-is_top.ensures c.in_default-split_sibling.ensures (c.next.ensures.value ∙ ap (λ (h : List ℕ). get_or (hashes_in h) c.loop-item.hashes.used no_value) (ap (λ b. b.now) c.loop-item.invariant.1)) c.above_one.ensures c.push-in_default-split_sibling.ensures.items c.next.ensures.used,
+  c.next.ensures.bytes ∙ c.loop-item.invariant.1,
+)

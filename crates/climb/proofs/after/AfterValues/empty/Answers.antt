@@ -1,5 +1,6 @@
+use Rattle.std.proofs.Common.{arith}
 use Rattle.climb.proofs.Lookups.{empty_look}
 use Rattle.climb.proofs.after.AfterValues.empty.Goals as goal
 
 pub returns : goal.returns
-returns c = λ row place. empty_look 32 c.empty.result c.empty.ensures row place
+returns c = empty_look c.default.result (λ k d l. c.default.ensures.at k d (omega (arith, c.default.ensures.long)))

@@ -1,0 +1,31 @@
+// The hashes of a block, taken one after the other.
+ghost use Rattle.std.specs.Prelude.{◌≡◌, ◌+◌, ◌<◌, ◌^◌, slice_index_or};
+ghost use Rattle.utreexo.specs.Claims.{no_value};
+ghost use Rattle.climb.specs.Held.{hashes_in};
+
+use utreexo::record::Record;
+use utreexo::types::Value;
+
+// Hashes as bytes, 32 each, and how many are used.
+#[derive(Clone, Copy)]
+pub(crate) struct Hashes<'a> {
+    pub(crate) bytes: &'a [u8],
+    pub(crate) used: usize,
+}
+
+impl Hashes<'_> {
+    // The next hash. One that is missing counts as zero, and as used.
+    pub(crate) fn next(&mut self) -> Value
+        requires { self.old.used < 2 ^ 32 }
+        ensures value { result ≡ slice_index_or (hashes_in self.old.bytes.now) self.old.used no_value }
+        ensures used { self.new.used ≡ self.old.used + 1 }
+        ensures bytes { self.new.bytes ≡ self.old.bytes }
+    {
+        let (hashes, _) = self.bytes.as_chunks::<32>();
+        let hash = hashes
+            .get(self.used)
+            .map_or(Value::default(), Value::from_bytes);
+        self.used += 1;
+        hash
+    }
+}

@@ -1,0 +1,72 @@
+// The rows of a block's targets, from the slots up.
+ghost use Rattle.std.specs.Prelude.{◌≡◌, ◌+◌, ◌*◌, ◌/◌, ◌^◌, ◌<◌, ◌≤◌, [], map, length, None};
+ghost use Rattle.targets.specs.Spends.{target_of, targets};
+ghost use Rattle.targets.specs.Targets.{placed};
+ghost use Rattle.climb.specs.Rows.{front, past, spent_item, merge, left_of, step};
+ghost use Rattle.climb.specs.Rows.{stepped};
+ghost use Rattle.climb.specs.Held.{hashes_in};
+
+use crate::hashes::Hashes;
+use crate::item::{Item, Row};
+use crate::step::{count_row, merge_row, step_row};
+use compression::Compression;
+use targets::placed::Targets;
+use targets::spend::Spend;
+
+// What goes up from row to row: the targets of the rows to come, the items that come from the row below, and the hashes.
+#[derive(Drop)]
+pub(crate) struct Rise<'a> {
+    pub(crate) count: u32,
+    pub(crate) left: &'a [Spend],
+    pub(crate) carried: Row,
+    pub(crate) hashes: Hashes<'a>,
+    ghost few: { length carried.items + length left.now ≤ 32 },
+}
+
+// A row worked out: its items, and that of its root, if the root is covered.
+#[derive(Drop)]
+pub(crate) struct Worked {
+    pub(crate) items: Row,
+    pub(crate) aside: Option<Item>,
+}
+
+impl Rise<'_> {
+    pub(crate) fn new<'a>(targets: &'a Targets, hashes: &'a [u8]) -> Rise<'a>
+        ensures count { result.count ≡ targets.now.count }
+        ensures left { map target_of result.left.now ≡ placed targets.now }
+        ensures carried { result.carried.items ≡ [] }
+        ensures hashes { (result.hashes.bytes.now ≡ hashes.now) × (result.hashes.used ≡ 0) }
+    {
+        Rise {
+            count: targets.count(),
+            left: targets.as_slice(),
+            carried: Row::new(),
+            hashes: Hashes {
+                bytes: hashes,
+                used: 0,
+            },
+        }
+    }
+
+    // Works a row out, once those below it are, and goes up.
+    pub(crate) fn work<C: Compression>(&mut self, row: u8) -> Worked
+        requires low { row < 32 }
+        requires few { self.old.hashes.used < 2 ^ 31 }
+        ensures items { result.items.items ≡ merge left_of self.old.carried.items (map (spent_item C.Compression.image) (front row (targets self.old.left.now))) }
+        ensures room { length result.items.items ≤ 32 }
+        ensures left { targets self.new.left.now ≡ past row (targets self.old.left.now) }
+        ensures made { stepped self.new.carried.items result.aside self.new.hashes.used ≡ step C.Compression.image (hashes_in self.old.hashes.bytes.now) (self.old.count / 2 ^ row) self.old.hashes.used None result.items.items }
+        ensures used { self.new.hashes.used ≤ self.old.hashes.used + 32 }
+        ensures same { (self.new.count ≡ self.old.count) × (self.new.hashes.bytes ≡ self.old.hashes.bytes) }
+    {
+        let (here, higher) = self.left.split_at(count_row(self.left, row));
+        let items = merge_row::<C>(self.carried.as_slice(), here);
+        let raised = step_row::<C>(items.as_slice(), self.count >> row, &mut self.hashes);
+        self.left = higher;
+        self.carried = raised.parents;
+        Worked {
+            items,
+            aside: raised.aside,
+        }
+    }
+}
