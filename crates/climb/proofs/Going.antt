@@ -1,6 +1,6 @@
 -- The loop of a row's step, by what is left to do. Assumes nothing.
 use Rattle.std.proofs.Common.{◌≡◌, ℕ, ◌+◌, ◌≤◌, true, false, List, [], ◌∷◌, ◌++◌, length, get_or, None, Some, Option, sym, ap, ◌∙◌, arith}
-use Rattle.std.proofs.lemmas.List.{append_assoc, append-nil, length_push, nil_from_length}
+use Rattle.std.proofs.lemmas.List.{append_assoc, length_push}
 use Rattle.utreexo.specs.declared.types.Value.{Value}
 use Rattle.climb.specs.declared.item.Item.{Item}
 use Rattle.utreexo.specs.Values.{Image}
@@ -24,11 +24,6 @@ module _ (image : Image) (hs : List Value) (w : ℕ) (items : List Item) (used :
     pub ahead : behind parents (step image hs w next aside rest) ≡ step image hs w used None items
 
 module _ {image : Image} {hs : List Value} {w : ℕ} {items : List Item} {used : ℕ} where
-  pub going_none : {ps : List Item} → ps ≡ [] → Going image hs w items used ps None used items
-  going_none {ps} e =
-      let l = ap length e in
-      record { room = omega arith; count = omega arith; ahead = ap (λ (q : List Item). behind q (step image hs w used None items)) e }
-
   module _ {parents : List Item} {aside : Option Item} {next : ℕ} {rest : List Item} (was : Going image hs w items used parents aside next rest) where
     module _ {x : Item} {after : List Item} (left : rest ≡ x ∷ after) where
       pub going_root : true ≡ top w x.place → Going image hs w items used parents (Some x) next after
@@ -70,7 +65,3 @@ module _ {image : Image} {hs : List Value} {w : ℕ} {items : List Item} {used :
             count = omega arith;
             ahead = more p out _ oe (step_lone image hs w next aside x after (sym e) f ∙ ap (λ (q : Item). before q (step image hs w (next + 1) aside after)) (sym (pe ∙ ap (lone image x) he)) ∙ ap (λ k. before p (step image hs w k aside after)) (sym ne));
           }
-
-    pub going_all : length rest ≡ 0 → stepped parents aside next ≡ step image hs w used None items
-    going_all e =
-        sym (ap (λ (l : List Item). stepped l aside next) (append-nil parents)) ∙ sym (ap (λ (l : List Item). behind parents (step image hs w next aside l)) (nil_from_length rest e)) ∙ was.ahead

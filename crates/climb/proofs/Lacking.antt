@@ -1,69 +1,23 @@
 -- The loops that find the needed positions.
 use Rattle.std.proofs.Common.{◌≡◌, ℕ, zero, suc, ◌+◌, ◌*◌, ◌/◌, ◌^◌, ◌≤◌, Bool, true, false, cond, List, [], ◌∷◌, ◌++◌, map, length, sym, refl, ap, ◌∙◌, arith}
-use Rattle.std.proofs.lemmas.List.{append_assoc, append-nil, length_push, nil_from_length, length-map, length-append}
+use Rattle.std.proofs.lemmas.List.{append_assoc, append-nil, length-map, length-append}
 use Rattle.utreexo.specs.Values.{Image}
 use Rattle.utreexo.specs.Forest.{Node, at_node, position}
 use Rattle.utreexo.specs.Claims.{Target, Proof, needed}
 use Rattle.climb.specs.declared.item.Item.{Item}
 use Rattle.targets.proofs.Valid.{Valid}
 use Rattle.climb.specs.Rows.{top, beside, sib, lones, full, numbers, wanted}
-use Rattle.climb.specs.Held.{alone_item}
 use Rattle.climb.specs.Entries.{entry}
 use Rattle.climb.specs.Needed.{numbered, places}
-use Rattle.climb.proofs.Walk.{alone, lones_root, lones_pair, lones_lone}
 use Rattle.climb.proofs.Wanted.{needed_is}
 
 -- A row ------------------------------------------------------------------------------
-
-alone_places : (x : Item) (l : List Item) → alone_item x l ≡ true → alone x.place (places l) ≡ true
-alone_places x [] e = e
-alone_places x (y ∷ ys) e = e
 
 module _ (row w : ℕ) (items : List Item) (before : List Node) where
   -- the items that are left give the rest
   pub record Lacking (nodes : List Node) (rest : List Item) : Type 0 where
     pub room : length nodes + length rest ≤ length before + length items
     pub ahead : nodes ++ map (at_node row) (lones w (places rest)) ≡ before ++ map (at_node row) (lones w (places items))
-
-module _ {row w : ℕ} {items : List Item} {before : List Node} where
-  pub lacking_none : Lacking row w items before before items
-  lacking_none = record { room = omega arith; ahead = refl }
-
-  module _ {nodes : List Node} {rest : List Item} (was : Lacking row w items before nodes rest) where
-    module _ {x : Item} {after : List Item} (left : rest ≡ x ∷ after) where
-      abbrev with_places : List ℕ → List Node
-      with_places l = nodes ++ map (at_node row) l
-
-      pub lacking_root : true ≡ top w x.place → Lacking row w items before nodes after
-      lacking_root e =
-          let r = was in
-          let l = ap length left in
-          record { room = omega arith; ahead = ap with_places (sym (ap (λ l. lones w (places l)) left ∙ lones_root w x.place (places after) (sym e))) ∙ r.ahead }
-
-      pub lacking_both : false ≡ top w x.place → {y : Item} {others : List Item} → after ≡ y ∷ others → beside x.place y.place ≡ true → Lacking row w items before nodes others
-      lacking_both e {y} {others} f b =
-          let r = was in
-          let l = ap length left in
-          let m = ap length f in
-          record {
-            room = omega arith;
-            ahead = ap with_places (sym (ap (λ l. lones w (places l)) (left ∙ ap (λ (l : List Item). x ∷ l) f) ∙ lones_pair w x.place y.place (places others) (sym e) b)) ∙ r.ahead;
-          }
-
-      pub lacking_lone : false ≡ top w x.place → alone_item x after ≡ true → {q : ℕ} → q ≡ sib x.place → {nodes' : List Node} → nodes' ≡ nodes ++ (at_node row q ∷ []) → Lacking row w items before nodes' after
-      lacking_lone e f {q} qe {nodes'} ne =
-          let r = was in
-          let l = ap length left in
-          let s = ap length ne ∙ length_push nodes (at_node row q) in
-          let later : List Node = map (at_node row) (lones w (places after)) in
-          record {
-            room = omega arith;
-            ahead = ap (λ (l : List Node). l ++ later) ne ∙ append_assoc nodes (at_node row q ∷ []) later ∙ ap (λ z. nodes ++ (at_node row z ∷ later)) qe
-                ∙ ap with_places (sym (ap (λ l. lones w (places l)) left ∙ lones_lone w x.place (places after) (sym e) (alone_places x after f))) ∙ r.ahead;
-          }
-
-    pub lacking_all : length rest ≡ 0 → nodes ≡ before ++ map (at_node row) (lones w (places items))
-    lacking_all e = sym (append-nil nodes) ∙ sym (ap (λ (l : List Item). nodes ++ map (at_node row) (lones w (places l))) (nil_from_length rest e)) ∙ was.ahead
 
 -- All rows -----------------------------------------------------------------------------
 

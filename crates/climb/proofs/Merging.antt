@@ -39,9 +39,6 @@ module _ (image : Image) (xs : List Item) (ss : List Spend) where
     pub ahead : out ++ merge left_of rest (map (spent_item image) (targets (drop i ss))) ≡ merge left_of xs (map (spent_item image) (targets ss))
 
 module _ {image : Image} {xs : List Item} {ss : List Spend} where
-  pub merging_none : {out : List Item} → out ≡ [] → Merging image xs ss out xs 0
-  merging_none {out} e = let l = ap length e in record { few = omega arith; ahead = ap (λ (q : List Item). q ++ merge left_of xs (map (spent_item image) (targets ss))) e }
-
   module _ {out rest : List Item} {i : ℕ} (was : Merging image xs ss out rest i) where
     pub merging_more : (d : Spend) → i < length ss → {k : ℕ} → k ≡ before (get_or ss i d).node.place rest → {front back : List Item} → front ≡ take k rest → back ≡ drop k rest
         → {mid : List Item} → mid ≡ out ++ front → {p : Item} → p ≡ spent_item image (target_of (get_or ss i d)) → {out' : List Item} → out' ≡ mid ++ (p ∷ []) → Merging image xs ss out' back (i + 1)
