@@ -1,6 +1,7 @@
 -- The loops that find the needed positions.
-use Rattle.std.proofs.Common.{◌≡◌, ℕ, zero, suc, ◌+◌, ◌*◌, ◌/◌, ◌^◌, ◌≤◌, Bool, true, false, cond, List, [], ◌∷◌, ◌++◌, map, length, sym, refl, ap, ◌∙◌, arith}
-use Rattle.std.proofs.lemmas.List.{append_assoc, append-nil, length-map, length-append}
+use Rattle.std.proofs.Common.{◌≡◌, ℕ, zero, suc, ◌+◌, ◌*◌, ◌/◌, ◌^◌, ◌≤◌, Bool, true, false, cond, List, [], ◌∷◌, ◌++◌, map, length, sym, ap, ◌∙◌, arith}
+use Rattle.std.proofs.lemmas.List.{append_assoc, append-nil, length-map, length-append, map-append, map-id}
+use Rattle.std.proofs.lemmas.Simd.{map-map}
 use Rattle.utreexo.specs.Values.{Image}
 use Rattle.utreexo.specs.Forest.{Node, at_node, position}
 use Rattle.utreexo.specs.Claims.{Target, Proof, needed}
@@ -25,18 +26,6 @@ wanted_snoc : (n : ℕ) (ts : List Target) (f a k : ℕ) → a + f ≡ k → wan
 wanted_snoc n ts zero a k e = let s : a ≡ k = omega arith in append-nil (numbers n ts a) ∙ ap (numbers n ts) s
 wanted_snoc n ts (suc f) a k e =
     ap (λ l. numbers n ts a ++ l) (wanted_snoc n ts f (suc a) k (omega arith)) ∙ sym (append_assoc (numbers n ts a) (wanted n ts (suc a) f) (numbers n ts k))
-
-numbered_append : (n : ℕ) (xs ys : List Node) → numbered n (xs ++ ys) ≡ numbered n xs ++ numbered n ys
-numbered_append n [] ys = refl
-numbered_append n (x ∷ xs) ys = ap (λ l. position n x.row x.place ∷ l) (numbered_append n xs ys)
-
-numbered_row : (n r : ℕ) (os : List ℕ) → numbered n (map (at_node r) os) ≡ map (position n r) os
-numbered_row n r [] = refl
-numbered_row n r (o ∷ os) = ap (λ l. position n r o ∷ l) (numbered_row n r os)
-
-places_entries : (image : Image) (p : Proof) (r : ℕ) (os : List ℕ) → places (map (entry image p r) os) ≡ os
-places_entries image p r [] = refl
-places_entries image p r (o ∷ os) = ap (λ l. o ∷ l) (places_entries image p r os)
 
 length_lones : (w : ℕ) (xs : List ℕ) → length (lones w xs) ≤ length xs
 length_lones w [] = omega arith
@@ -66,16 +55,17 @@ module _ {n : ℕ} {ts : List Target} {r : ℕ} {nodes : List Node} where
       → (nodes' : List Node) → nodes' ≡ nodes ++ map (at_node r) (lones (n / 2 ^ r) (places merged)) → Lacked n ts (r + 1) nodes'
   lacked_more was image p merged me small nodes' ne =
       let one : suc r ≡ r + 1 = omega arith in
-      let row : places merged ≡ full n ts r = ap places me ∙ places_entries image p r (full n ts r) in
+      let row : places merged ≡ full n ts r = ap places me ∙ map-map (λ (x : Item). x.place) (entry image p r) (full n ts r) ∙ map-id (full n ts r) in
       let xs : List ℕ = lones (n / 2 ^ r) (places merged) in
       let a = ap length ne ∙ length-append nodes (map (at_node r) xs) in
       let b = length-map xs (at_node r) in
       let c = length_lones (n / 2 ^ r) (places merged) in
       let d = length-map merged (λ x. x.place) in
       let w = was.few in
+      let number : Node → ℕ = λ d. position n d.row d.place in
       record {
         few = omega arith;
-        are = ap (numbered n) ne ∙ numbered_append n nodes (map (at_node r) xs) ∙ ap (λ l. numbered n nodes ++ l) (numbered_row n r xs ∙ ap (λ l. map (position n r) (lones (n / 2 ^ r) l)) row)
+        are = ap (numbered n) ne ∙ map-append number nodes (map (at_node r) xs) ∙ ap (λ l. numbered n nodes ++ l) (map-map number (at_node r) xs ∙ ap (λ l. map (position n r) (lones (n / 2 ^ r) l)) row)
             ∙ ap (λ l. l ++ numbers n ts r) was.are ∙ sym (wanted_snoc n ts r 0 r (omega arith)) ∙ ap (wanted n ts 0) one;
       }
 

@@ -1,6 +1,7 @@
 -- The loops over the rows: what holds when a row begins.
 use Rattle.std.proofs.Common.{◌≡◌, ℕ, suc, ◌+◌, ◌*◌, ◌/◌, ◌^◌, ◌<◌, ◌≤◌, Bool, true, cond, not, ◌&&◌, ◌⊎◌, List, [], ◌∷◌, ◌++◌, map, length, get_or, drop, set, Some, None, Option, sym, refl, ap, ◌∙◌, subst, inl, inr, arith}
 use Rattle.std.proofs.lemmas.Bool.{cases_eq}
+use Rattle.std.proofs.Math.Seq.{set-append_seam}
 use Rattle.std.proofs.lemmas.List.{append_assoc, append-nil, drop_more, drop_all, length-set, get_or-set_same, get_or-set_other, map_push}
 use Rattle.utreexo.specs.declared.types.Value.{Value}
 use Rattle.climb.specs.declared.item.Item.{Item}
@@ -18,17 +19,13 @@ use Rattle.climb.proofs.Lookups.{found_left}
 use Rattle.targets.proofs.Inside.{row_low}
 use Rattle.climb.proofs.Rowwise.{row_merged, row_stepped, row_aside, set_aside, row_fits_root, row_root_after, fits_more}
 
-set_mid : {A : Type 0} (xs : List A) (y : A) (ys : List A) (z : A) → set (xs ++ (y ∷ ys)) (length xs) z ≡ xs ++ (z ∷ ys)
-set_mid [] y ys z = refl
-set_mid (x ∷ xs) y ys z = ap (λ l. x ∷ l) (set_mid xs y ys z)
-
 -- one root more is written
 write_more : {A : Type 0} (f : ℕ → A) (roots now : List A) (r : ℕ) (d z : A) → r < length roots → now ≡ map f (below r) ++ drop r roots → z ≡ f r → set now r z ≡ map f (below (suc r)) ++ drop (suc r) roots
 write_more f roots now r d z lt e q =
     let s : suc r ≡ r + 1 = omega arith in
     ap (λ l. set l r z) (e ∙ ap (λ l. map f (below r) ++ l) (drop_more roots r d lt))
     ∙ ap (λ k. set (map f (below r) ++ (get_or roots r d ∷ drop (r + 1) roots)) k z) (sym (length_map_below f r))
-    ∙ set_mid (map f (below r)) (get_or roots r d) (drop (r + 1) roots) z
+    ∙ set-append_seam (map f (below r)) (get_or roots r d) (drop (r + 1) roots) z
     ∙ ap (λ x. map f (below r) ++ (x ∷ drop (r + 1) roots)) q
     ∙ sym (append_assoc (map f (below r)) (f r ∷ []) (drop (r + 1) roots))
     ∙ ap (λ l. l ++ drop (r + 1) roots) (sym (map_push f (below r) r))

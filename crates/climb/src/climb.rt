@@ -14,6 +14,7 @@ use targets::placed::Targets;
 use utreexo::types::Value;
 
 // How many hashes the targets need, whether the proof fits, and the roots once the targets are spent.
+// The flag stays beside the roots: all three are said of every proof, and an Option of the roots would say nothing where it does not fit.
 #[derive(Clone, Copy)]
 pub struct Climbed {
     pub used: usize,

@@ -1,5 +1,4 @@
 // A compression that works nothing out.
-ghost use Rattle.std.specs.Prelude.{◌≡◌};
 ghost use Rattle.utreexo.specs.Claims.{no_value};
 ghost use Rattle.std.proofs.Common.{rules};
 

@@ -1,9 +1,8 @@
 // The rows of a block's targets, from the slots up.
-ghost use Rattle.std.specs.Prelude.{◌≡◌, ◌+◌, ◌*◌, ◌/◌, ◌^◌, ◌<◌, ◌≤◌, [], map, length, None};
+ghost use Rattle.std.specs.Prelude.{◌≡◌, ◌+◌, ◌/◌, ◌^◌, ◌<◌, ◌≤◌, [], map, length, None};
 ghost use Rattle.targets.specs.Spends.{target_of, targets};
 ghost use Rattle.targets.specs.Targets.{placed};
-ghost use Rattle.climb.specs.Rows.{front, past, spent_item, merge, left_of, step};
-ghost use Rattle.climb.specs.Rows.{stepped};
+ghost use Rattle.climb.specs.Rows.{front, past, spent_item, merge, left_of, stepped, step};
 ghost use Rattle.climb.specs.Held.{hashes_in};
 
 use crate::hashes::Hashes;
@@ -16,9 +15,9 @@ use targets::spend::Spend;
 // What goes up from row to row: the targets of the rows to come, the items that come from the row below, and the hashes.
 #[derive(Drop)]
 pub(crate) struct Rise<'a> {
-    pub(crate) count: u32,
-    pub(crate) left: &'a [Spend],
-    pub(crate) carried: Row,
+    count: u32,
+    left: &'a [Spend],
+    carried: Row,
     pub(crate) hashes: Hashes<'a>,
     ghost few: { length carried.items + length left.now ≤ 32 },
 }
@@ -31,6 +30,7 @@ pub(crate) struct Worked {
 }
 
 impl Rise<'_> {
+    // Where the rows begin: nothing comes from below the slots.
     pub(crate) fn new<'a>(targets: &'a Targets, hashes: &'a [u8]) -> Rise<'a>
         ensures count { result.count ≡ targets.now.count }
         ensures left { map target_of result.left.now ≡ placed targets.now }

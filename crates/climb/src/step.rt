@@ -62,6 +62,7 @@ pub(crate) fn merge_row<C: Compression>(carried: &[Item], spends: &[Spend]) -> R
 {
     let mut row = Row::new();
     let mut rest = carried;
+    // There is room for all of them, so that neither call can fail.
     for spend in spends {
         let left = rest
             .iter()

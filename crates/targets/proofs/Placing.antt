@@ -29,10 +29,6 @@ module _ (n : ℕ) (ps : List Position) (cs : List Coin) where
     pub ahead : any (outside n) (numbers left) ≡ any (outside n) (numbers ps)
     pub are : targets out ++ named n (numbers left) unspent ≡ named n (numbers ps) cs
 
-pub placing_none : {n : ℕ} {ps : List Position} {cs : List Coin} {out : List Spend} {left : List Position} {unspent : List Coin} → length ps ≤ 32 → length ps ≡ length cs → out ≡ [] → left ≡ ps → unspent ≡ cs
-    → Placing n ps cs out left unspent
-placing_none few same o a b = rw (o, a, b) (record { few = omega arith; same = same; ahead = refl; are = refl })
-
 module _ {n : ℕ} {ps : List Position} {cs : List Coin} {out : List Spend} {left : List Position} {unspent : List Coin} (w : Placing n ps cs out left unspent) where
   module _ {p : Position} {later : List Position} (a : left ≡ p ∷ later) where
     pub placing_outside : None ≡ locate n p.number → any (outside n) (numbers ps) ≡ true

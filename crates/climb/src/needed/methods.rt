@@ -10,7 +10,7 @@ ghost use Rattle.climb.specs.Needed.{nodes_of, numbered, places};
 use super::Needed;
 use crate::above::is_top;
 use crate::item::Item;
-use crate::no_values::*;
+use crate::no_values::NoValues;
 use crate::rise::Rise;
 use crate::step::split_sibling;
 use arrayvec::ArrayVec;
@@ -19,6 +19,7 @@ use targets::placed::Targets;
 
 impl Needed {
     // Puts the siblings that are not covered last, for a row of `width` places with these covered ones.
+    // The walk is that of `step_row`, kept apart: one for both would take a closure each for a root, a pair and a lone item, no plainer.
     fn push_siblings(&mut self, row: u8, items: &[Item], width: u32)
         requires { length (nodes_of self.old) + length items.now ≤ 1024 }
         ensures { nodes_of self.new ≡ nodes_of self.old ++ map (at_node row) (lones width (places items.now)) }

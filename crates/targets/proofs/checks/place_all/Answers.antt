@@ -4,9 +4,6 @@ use Rattle.std.specs.Iterator.Adapters.{zip_first}
 use Rattle.targets.proofs.Placing.{placing_none, placing_outside, placing_more, placing_all}
 use Rattle.targets.proofs.checks.place_all.Goals as goal
 
-pub loop-position-init : goal.loop-position-init
-loop-position-init c = placing_none c.requires.few c.requires.same c.new-spends.ensures (cc) (cc c.zip-position-items.ensures.second.0)
-
 pub returns-in_err-node : goal.returns-in_err-node
 returns-in_err-node c = rw c.from_residual.ensures (placing_outside c.loop-position.invariant c.in-Some.ensures.steps.0 c.in_err-node.ensures.value)
 
