@@ -23,19 +23,12 @@ pub(crate) fn place_all(count: u32, positions: &[Position], coins: &[Coin]) -> O
     Some(spends)
 }
 
-// The place so many rows higher.
-fn place_above(place: u32, rows: u8) -> u32
-    ensures { result ≡ place / 2 ^ rows }
-{
-    place.unbounded_shr(rows as u32)
-}
-
 // Whether a target is above another: not at the same place, and over it.
 fn is_above(upper: Spend, lower: Spend) -> bool
     ensures { result ≡ strictly_above (target_of upper) (target_of lower) }
 {
     let (above, below) = (upper.node, lower.node);
-    below.row < above.row && place_above(below.place, above.row - below.row) == above.place
+    below.row < above.row && place::runs(below.place, above.row - below.row) == above.place
 }
 
 fn is_above_any(upper: Spend, spends: &[Spend]) -> bool
