@@ -15,7 +15,7 @@ pub(crate) fn pack_all<T: Record<N>, const N: usize>(
     ensures after { out.new ≡ placed at (concat (map T.Record.packed items.now)) out.old }
     ensures end { result ≡ at + length (concat (map T.Record.packed items.now)) }
 {
-    // Tried: a zip with `chunks_exact_mut(N)`; it asks that N is above 0, which stays open (`chunks_exact_mut-requires`).
+    // The offset runs along, since it is the answer: a zip with `chunks_exact_mut` would need it too, so it is no plainer.
     let mut start = at;
     for item in items {
         let end = start + N;

@@ -12,7 +12,6 @@ pub(crate) fn read_all<T: Record<N>, const N: usize>(
     count: usize,
     out: &mut [T],
 )
-    requires size { (0 < N) × (N < 2 ^ 63) }
     requires room { count ≤ length out.old }
     requires whole { start + N * count ≤ length bytes.now }
     ensures { take count out.new ≡ map (λ i. T.Record.decoded (part (start + N * i) N bytes.now)) (below count) }

@@ -13,6 +13,8 @@ impl Record<32> for Coin {
 
     ghost sized = { Prim.search rules };
 
+    ghost few = { Prim.search rules };
+
     fn from_bytes(bytes: &[u8; 32]) -> Coin {
         Coin {
             w0: read_word(bytes, 0),

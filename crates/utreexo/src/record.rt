@@ -1,5 +1,5 @@
 // Records of a fixed number of bytes: what blocks are made of.
-ghost use Rattle.std.specs.Prelude.{◌≡◌, length};
+ghost use Rattle.std.specs.Prelude.{◌≡◌, ◌<◌, ◌≤◌, length};
 ghost use Rattle.std.proofs.Common.{rules};
 ghost use Rattle.utreexo.specs.Bytes.{Bytes, number_in, number_bytes, position_in, position_bytes};
 
@@ -20,6 +20,9 @@ pub trait Record<const N: usize>: Copy {
         ensures { result ≡ packed self.now };
 
     ghost sized: { (x : Self) → length (packed x) ≡ N };
+
+    // So bytes can be cut into records.
+    ghost few: { (0 < N) × (N ≤ 32) };
 }
 
 // The counts at the front of a block.
@@ -29,6 +32,8 @@ impl Record<2> for u16 {
     ghost decoded = { number_in };
 
     ghost sized = { Prim.search rules };
+
+    ghost few = { Prim.search rules };
 
     fn from_bytes(bytes: &[u8; 2]) -> u16 {
         u16::from_le_bytes(*bytes)
@@ -45,6 +50,8 @@ impl Record<8> for Position {
     ghost decoded = { position_in };
 
     ghost sized = { Prim.search rules };
+
+    ghost few = { Prim.search rules };
 
     fn from_bytes(bytes: &[u8; 8]) -> Position {
         Position {

@@ -13,6 +13,8 @@ impl Record<32> for Value {
 
     ghost sized = { Prim.search rules };
 
+    ghost few = { Prim.search rules };
+
     fn from_bytes(bytes: &[u8; 32]) -> Value {
         Value {
             w0: read_word(bytes, 0),

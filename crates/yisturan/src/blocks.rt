@@ -1,6 +1,4 @@
 // Script calls on blocks as bytes.
-ghost use Rattle.std.specs.Prelude.{◌<◌, ◌≤◌};
-
 use crate::answer::{Answer, Output};
 use crate::arguments::{Argument, only_bytes};
 use crate::fault::*;
@@ -31,10 +29,10 @@ pub(crate) fn list_entries(heap: Global, arguments: &[Argument]) -> Result<Answe
 }
 
 // The records that the bytes stand for, N bytes each.
-fn records<T: Record<N> + Drop, const N: usize>(heap: Global, bytes: &[u8]) -> Result<Vec<T>, Fault>
-    requires some { 0 < N }
-    requires small { N ≤ 32 }
-{
+fn records<T: Record<N> + Drop, const N: usize>(
+    heap: Global,
+    bytes: &[u8],
+) -> Result<Vec<T>, Fault> {
     let (chunks, rest) = bytes.as_chunks::<N>();
     if !rest.is_empty() {
         return Err(Fault::Mismatched);
