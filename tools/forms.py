@@ -37,7 +37,7 @@ def enums():
     for f, text in SOURCE.items():
         for m in re.finditer(r"^(?:pub(?:\(\w+\))? )?enum (\w+)[^{]*\{(.*?)^\}", text, re.M | re.S):
             cases = [c.strip() for c in m.group(2).split("\n") if c.strip() and not c.strip().startswith("//")]
-            bare = [c for c in cases if re.fullmatch(r"\w+,", c)]
+            bare = [c for c in cases if re.fullmatch(r"\w+( = \d+)?,", c)]
             if bare and len(bare) < len(cases):
                 yield f, text[:m.start()].count("\n") + 1, "enum %s: %s" % (m.group(1), " ".join(bare))
 
