@@ -25,7 +25,7 @@ use utreexo::types::{Coin, Slot, Value};
 pub struct Full<C: Compression> {
     bare: Bare<C>,
     table: Vec<Option<Value>>,
-    ghost room: { 2 ^ (rows_of bare.limit + 1) ≤ vec_len table },
+    ghost room: { vec_len table ≡ 2 ^ (rows_of bare.limit + 1) },
     ghost stored: { AtPositions C.Compression.image bare.coins.items table.items },
 }
 

@@ -18,7 +18,7 @@ invariant_of-self-2 g c =
 pub update_path-requires-clause-room : goal.update_path-requires-clause-room
 update_path-requires-clause-room g c =
     let m = c.args.self.now in
-    room (length c.slots.result.now) m.bare.limit (vec_len m.table) (length c.relay.new.table) (omega (arith, ap length c.slots.ensures, c.append.new.self.fits, c.in_ok-append.ensures.same)) m.bare.small (omega (arith, c.as_mut_slice-table.ensures.len)) m.room
+    room (length c.slots.result.now) m.bare.limit (vec_len m.table) (length c.relay.new.table) (omega (arith, ap length c.slots.ensures, c.append.new.self.fits, c.in_ok-append.ensures.same)) m.bare.small (omega (arith, c.as_mut_slice-table.ensures.len)) (omega (arith, m.room))
 
 pub relay-requires : goal.relay-requires
 relay-requires g c =
@@ -28,4 +28,4 @@ relay-requires g c =
     let len = vec_len m.table in
     let size = length c.as_mut_slice-table.result.now in
     let e = c.as_mut_slice-table.ensures.len in
-    (room n m.bare.limit len size (omega arith) m.bare.small e m.room, room (n + 1) m.bare.limit len size (omega arith) m.bare.small e m.room)
+    (room n m.bare.limit len size (omega arith) m.bare.small e (omega (arith, m.room)), room (n + 1) m.bare.limit len size (omega arith) m.bare.small e (omega (arith, m.room)))

@@ -7,7 +7,7 @@ use Rattle.full_keeper.proofs.FullKeeper.blank.Goals as goal
 pub update_path-requires-clause-room : goal.update_path-requires-clause-room
 update_path-requires-clause-room g c =
     let m = c.args.self.now in
-    room (length c.slots.result.now) m.bare.limit (vec_len m.table) (length c.as_mut_slice.result.now) (omega (arith, ap length c.slots.ensures, c.blank.new.self.fits, c.in_ok-blank.ensures.same)) m.bare.small c.as_mut_slice.ensures.len m.room
+    room (length c.slots.result.now) m.bare.limit (vec_len m.table) (length c.as_mut_slice.result.now) (omega (arith, ap length c.slots.ensures, c.blank.new.self.fits, c.in_ok-blank.ensures.same)) m.bare.small c.as_mut_slice.ensures.len (omega (arith, m.room))
 
 pub invariant_of-self-2 : goal.invariant_of-self-2
 invariant_of-self-2 g c =

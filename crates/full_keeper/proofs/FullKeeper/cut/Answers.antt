@@ -24,4 +24,4 @@ relay-requires g c =
     let len = vec_len m.table in
     let size = length c.as_mut_slice.result.now in
     let e = c.as_mut_slice.ensures.len in
-    (room (n + 1) m.bare.limit len size (omega arith) m.bare.small e m.room, room n m.bare.limit len size (omega arith) m.bare.small e m.room)
+    (room (n + 1) m.bare.limit len size (omega arith) m.bare.small e (omega (arith, m.room)), room n m.bare.limit len size (omega arith) m.bare.small e (omega (arith, m.room)))

@@ -23,7 +23,7 @@ pub index-requires : goal.index-requires
 index-requires g c =
     let m = c.args.self.now in
     let n = c.count-count.result in
-    let f = fitting n n m.bare.limit c.rows.result (vec_len m.table) (omega arith) (omega arith) m.bare.small c.rows.ensures.value m.room in
+    let f = fitting n n m.bare.limit c.rows.result (vec_len m.table) (omega arith) (omega arith) m.bare.small c.rows.ensures.value (omega (arith, m.room)) in
     rw c.index_of.ensures (has_entry n c.rows.result c.args.run.row c.args.run.place _ f (run_true n c.args.run.row c.args.run.place c.if-not-is_within.ensures))
 
 pub returns : goal.returns
@@ -35,7 +35,7 @@ returns g c =
     let row = c.args.run.row in
     let place = c.args.run.place in
     let h = run_true n row place c.if-not-is_within.ensures in
-    let f = fitting n n m.bare.limit c.rows.result (vec_len m.table) (omega arith) (omega arith) m.bare.small c.rows.ensures.value m.room in
+    let f = fitting n n m.bare.limit c.rows.result (vec_len m.table) (omega arith) (omega arith) m.bare.small c.rows.ensures.value (omega (arith, m.room)) in
     let here : c.index_of.result < vec_len m.table = rw c.index_of.ensures (has_entry n c.rows.result row place _ f h) in
     let R = c.rows.ensures.value ∙ ap rows c.count-count.ensures in
     ap Ok
