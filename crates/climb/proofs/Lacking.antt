@@ -47,9 +47,6 @@ pub record Lacked (n : ℕ) (ts : List Target) (r : ℕ) (nodes : List Node) : T
   pub few : length nodes ≤ 32 * r
   pub are : numbered n nodes ≡ wanted n ts 0 r
 
-pub lacked_none : {n : ℕ} {ts : List Target} {nodes : List Node} → nodes ≡ [] → Lacked n ts 0 nodes
-lacked_none {n} e = let l = ap length e in record { few = omega arith; are = ap (numbered n) e }
-
 module _ {n : ℕ} {ts : List Target} {r : ℕ} {nodes : List Node} where
   pub lacked_more : Lacked n ts r nodes → (image : Image) (p : Proof) (merged : List Item) → merged ≡ map (entry image p r) (full n ts r) → length merged ≤ 32
       → (nodes' : List Node) → nodes' ≡ nodes ++ map (at_node r) (lones (n / 2 ^ r) (places merged)) → Lacked n ts (r + 1) nodes'

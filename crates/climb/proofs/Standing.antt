@@ -1,5 +1,5 @@
 -- The loops over the rows: what holds when a row begins.
-use Rattle.std.proofs.Common.{◌≡◌, ℕ, suc, ◌+◌, ◌*◌, ◌/◌, ◌^◌, ◌<◌, ◌≤◌, Bool, true, cond, not, ◌&&◌, ◌⊎◌, List, [], ◌∷◌, ◌++◌, map, length, get_or, drop, set, Some, None, Option, sym, refl, ap, ◌∙◌, subst, inl, inr, arith}
+use Rattle.std.proofs.Common.{◌≡◌, ℕ, suc, ◌+◌, ◌*◌, ◌/◌, ◌^◌, ◌<◌, ◌≤◌, Bool, cond, not, ◌&&◌, ◌⊎◌, List, [], ◌∷◌, ◌++◌, map, length, get_or, drop, set, Some, None, Option, sym, ap, ◌∙◌, subst, inl, inr, arith}
 use Rattle.std.proofs.lemmas.Bool.{cases_eq}
 use Rattle.std.proofs.Math.Seq.{set-append_seam}
 use Rattle.std.proofs.lemmas.List.{append_assoc, append-nil, drop_more, drop_all, length-set, get_or-set_same, get_or-set_other, map_push}
@@ -56,9 +56,6 @@ module _ (image : Image) (n : ℕ) (ts : List Target) (hs : List Value) where
     pub all_told : (r o : ℕ) → o < n / 2 ^ r → left_at (lookup (get_or table r []) o) ≡ cond (covered ts (at_node r o)) (Some (after image (claim_at (proof_of n ts hs) r o))) None
 
 module _ {image : Image} {n : ℕ} {ts : List Target} {hs : List Value} where
-  pub rising_none : {items : List Item} {left : List Target} {next : ℕ} → items ≡ [] → left ≡ ts → next ≡ 0 → Rising image n ts hs 0 items left next
-  rising_none e f g = record { items_are = e; left_is = f; next_is = g; next_low = omega arith }
-
   -- a row's targets are merged in, and the row is taken up
   module _ (v : Valid n ts) {r : ℕ} {items : List Item} {left : List Target} {next : ℕ} (was : Rising image n ts hs r items left next) (low : r < 32)
       {merged : List Item} (merged_so : merged ≡ merge left_of items (map (spent_item image) (front r left))) where
@@ -92,10 +89,6 @@ module _ {image : Image} {n : ℕ} {ts : List Target} {hs : List Value} where
           })
 
   module _ {roots : List (Option Value)} where
-    pub standing_none : {items : List Item} {left : List Target} {next : ℕ} {table : List (List Item)} → items ≡ [] → left ≡ ts → next ≡ 0 → length roots ≡ 32 → length table ≡ 32
-        → Standing image n ts hs roots 0 items left next true roots table
-    standing_none e f g s t = record { rising = rising_none e f g; fitting_is = refl; size = s; roots_are = refl; tall = t; told = λ j less. absurd (omega arith) }
-
     pub standing_more : (v : Valid n ts) {r : ℕ} {items : List Item} {left : List Target} {next : ℕ} {fitting : Bool} {roots_now : List (Option Value)} {table : List (List Item)}
         → Standing image n ts hs roots r items left next fitting roots_now table → r < 32 → length roots ≡ 32
         → {merged : List Item} → merged ≡ merge left_of items (map (spent_item image) (front r left)) → {parents : List Item} {aside : Option Item} {next' : ℕ}

@@ -38,6 +38,7 @@ pub fn climb<C: Compression>(
     let mut rise = Rise::new(targets, hashes);
     let mut fitting = true;
     let mut roots_after = *roots;
+    // A row is a number here: it shifts the count and tells the targets of the row, so an iterator over the roots is no plainer.
     for row in 0..32u8 {
         let worked = rise.work::<C>(row);
         let root = roots[row as usize];

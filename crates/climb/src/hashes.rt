@@ -16,7 +16,7 @@ pub(crate) struct Hashes<'a> {
 impl Hashes<'_> {
     // The next hash. One that is missing counts as zero, and as used.
     pub(crate) fn next(&mut self) -> Value
-        requires { self.old.used < 2 ^ 32 }
+        requires { self.old.used < 2 ^ 63 }
         ensures value { result ≡ slice_index_or (hashes_in self.old.bytes.now) self.old.used no_value }
         ensures used { self.new.used ≡ self.old.used + 1 }
         ensures bytes { self.new.bytes ≡ self.old.bytes }

@@ -22,7 +22,8 @@ pub(crate) struct Rise<'a> {
     ghost few: { length carried.items + length left.now ≤ 32 },
 }
 
-// A row worked out: its items, and that of its root, if the root is covered.
+// A row worked out: its items, and that of its root, if the root is covered. `Raised` is of the row above: one type for both would be no
+// plainer.
 #[derive(Drop)]
 pub(crate) struct Worked {
     pub(crate) items: Row,
@@ -51,7 +52,7 @@ impl Rise<'_> {
     // Works a row out, once those below it are, and goes up.
     pub(crate) fn work<C: Compression>(&mut self, row: u8) -> Worked
         requires low { row < 32 }
-        requires few { self.old.hashes.used < 2 ^ 31 }
+        requires fits { self.old.hashes.used < 2 ^ 32 }
         ensures items { result.items.items ≡ merge left_of self.old.carried.items (map (spent_item C.Compression.image) (front row (targets self.old.left.now))) }
         ensures room { length result.items.items ≤ 32 }
         ensures left { targets self.new.left.now ≡ past row (targets self.old.left.now) }

@@ -31,7 +31,7 @@ pub(crate) fn split_sibling(item: Item, after: &[Item]) -> Option<(Item, &[Item]
 
 // Takes the items of a row of `width` places to the row above, from the left.
 pub(crate) fn step_row<C: Compression>(items: &[Item], width: u32, hashes: &mut Hashes) -> Raised
-    requires { (length items.now ≤ 32) × (hashes.old.used < 2 ^ 31) }
+    requires { (length items.now ≤ 32) × (hashes.old.used < 2 ^ 32) }
     ensures made { stepped result.parents.items result.aside hashes.new.used ≡ step C.Compression.image (hashes_in hashes.old.bytes.now) width hashes.old.used None items.now }
     ensures count { hashes.new.used ≤ hashes.old.used + length items.now }
     ensures bytes { hashes.new.bytes ≡ hashes.old.bytes }
@@ -69,11 +69,11 @@ pub(crate) fn merge_row<C: Compression>(carried: &[Item], spends: &[Spend]) -> R
             .take_while(|item| item.place < spend.node.place)
             .count();
         let (before, after) = rest.split_at(left);
-        let _ = row.try_extend_from_slice(before);
+        row.try_extend_from_slice(before).unwrap();
         row.push(spent_item::<C>(*spend));
         rest = after;
     }
-    let _ = row.try_extend_from_slice(rest);
+    row.try_extend_from_slice(rest).unwrap();
     row
 }
 

@@ -16,7 +16,7 @@ use utreexo::types::{Coin, Value};
 
 // A compression has no value of its own: its functions stand alone, and whoever uses one names its type.
 pub trait Compression {
-    // The number by which a script or a file names the compression; each implementation's clause and constant are tied.
+    // The number by which a script or a file names the compression: a constant, by a rule of the project.
     const NUMBER: u8;
 
     ghost NUMBER: { ℕ };

@@ -31,6 +31,7 @@ fn add_one_to_each(bytes: &mut [u8; 32])
 fn mix_into(left: &mut [u8; 32], right: &[u8; 32])
     ensures { left.new ≡ zip2 pair_byte left.old right.now }
 {
+    // Tried: `left.iter_mut().zip(right)`, whose `returns` stays open: it speaks of what the iterator has lent.
     for (i, byte) in left.iter_mut().enumerate() {
         *byte = mix_byte(*byte, right[i]);
     }

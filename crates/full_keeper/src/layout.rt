@@ -1,4 +1,5 @@
-// Where the values stand in the table, and how those over one slot are worked out anew.
+// Where the values stand in the table, and how those over one slot are worked out anew. By a rule of the project the table is numbered as
+// positions are, so it is read by index.
 ghost use Rattle.std.specs.Prelude.{◌≡◌, ℕ, ◌+◌, ◌^◌, ◌<◌, ◌≤◌, length};
 ghost use Rattle.utreexo.specs.Forest.{rows as rows_of};
 ghost use Rattle.full_keeper.specs.Table.{index, AtPositions, StoredBut};

@@ -19,6 +19,7 @@ pub(crate) fn relay(table: &mut [Option<Value>], old: u32, new: u32)
     }
     let count = old.min(new) as usize;
     let last = from.min(to);
+    // Rows are numbers, and the indices go by them, so a range is the plainest form.
     for done in 0..last {
         // Indices grow with R. The last row goes first if R grows, else the first, so that no entry is lost before it is copied.
         let row = if from < to { last - done } else { done + 1 };

@@ -53,7 +53,8 @@ pub enum Refusal {
 }
 
 impl Refusal {
-    // The number under which a terminal, a script or another implementation knows the refusal.
+    // The number under which a terminal, a script or another implementation knows the refusal. A method is plainer than a `From`: its
+    // contract names the definition.
     pub fn number(&self) -> u8
         ensures { result ≡ number self.now }
     {

@@ -20,9 +20,6 @@ later n r o s q h a b l = go (cases_order r s)
     go (inr (inl e)) = inl e
     go (inr (inr e)) = let u = number_next n s q h b in let v = number_up n (suc s) r e in absurd (omega arith)
 
-abbrev pub with_named : Option Node → Coin → List Target → List Target
-with_named x c r = elim x [ None ↦ r | Some e ↦ record { node = e; coin = c } ∷ r ]
-
 module _ (n : ℕ) where
   -- each target of a block has one of its positions
   record Of (ps : List ℕ) (t : Target) : Type 0 where
@@ -33,6 +30,9 @@ module _ (n : ℕ) where
 
   of_more : (p : ℕ) (ps : List ℕ) (t : Target) → Of ps t → Of (p ∷ ps) t
   of_more p ps t o = record { at = o.at; there = inr o.there; inside = o.inside; here = o.here }
+
+  abbrev with_named : Option Node → Coin → List Target → List Target
+  with_named x c r = elim x [ None ↦ r | Some e ↦ record { node = e; coin = c } ∷ r ]
 
   named_of : (ps : List ℕ) (cs : List Coin) (t : Target) → Mem t (named n ps cs) → Of ps t
   named_of [] cs t m = absurd m

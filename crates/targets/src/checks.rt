@@ -9,7 +9,7 @@ ghost use Rattle.targets.specs.Targets.{outside, strictly_above, Located};
 use crate::spend::{Spend, Spends};
 use utreexo::types::{Coin, Position};
 
-// The targets at the positions, each with the coin of the same number, if all are in the forest.
+// The targets at the positions, each with the coin of the same number, if all are in the forest. The two lists are those of a block.
 pub(crate) fn place_all(count: u32, positions: &[Position], coins: &[Coin]) -> Option<Spends>
     requires few { length positions.now ≤ 32 }
     requires same { length positions.now ≡ length coins.now }

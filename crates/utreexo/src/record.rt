@@ -5,7 +5,7 @@ ghost use Rattle.utreexo.specs.Bytes.{Bytes, number_in, number_bytes, position_i
 
 use crate::types::Position;
 
-// A record is N bytes.
+// A record is N bytes. `From` in its place is no plainer: it has a relation where lists of records need a function.
 pub trait Record<const N: usize>: Copy {
     // The record's bytes.
     ghost packed: { Self → Bytes };

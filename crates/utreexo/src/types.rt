@@ -8,7 +8,8 @@ pub struct Coin {
     pub w3: u64,
 }
 
-// A value: the image of an input, 32 bytes in the same form. It is a type of its own, so that no coin is taken for a value.
+// A value: the image of an input, 32 bytes in the same form. It is a type of its own, so that no coin is taken for a value;
+// one type with a marker would be no plainer, since every definition would name the marker.
 #[derive(Clone, Copy, PartialEq, Eq, Default, Debug)]
 pub struct Value {
     pub w0: u64,

@@ -48,6 +48,7 @@ impl Needed {
             nodes: ArrayVec::new(),
         };
         let mut rise = Rise::new(targets, &[]);
+        // A row is a number here, as in `climb`.
         for row in 0..32u8 {
             let worked = rise.work::<NoValues>(row);
             needed.push_siblings(row, worked.items.as_slice(), targets.count() >> row);

@@ -18,7 +18,7 @@ impl Targets {
     pub fn place(count: u32, positions: &[Position], coins: &[Coin]) -> Result<Targets, Refusal>
         ensures { Judged (target_causes count (numbers positions.now) coins.now) (Are count (numbers positions.now) coins.now) result }
     {
-        // The check chain takes each answer apart with `let .. else`: a form that the scope names.
+        // By a rule of the project the check chain takes each answer apart with `let .. else`.
         if positions.len() > 32 {
             return Err(Refusal::OverLimit);
         }

@@ -1,20 +1,10 @@
 use Rattle.std.proofs.Common.{◌/◌, ◌^◌, ◌<◌, ◌&&◌, None, ap, ◌∙◌, arith}
-use Rattle.std.proofs.lemmas.List.{length-map}
 use Rattle.targets.specs.Targets.{placed}
 use Rattle.targets.proofs.Valid.{valid_is}
 use Rattle.climb.specs.Rows.{step}
 use Rattle.climb.specs.Held.{hashes_in}
-use Rattle.climb.proofs.Lookups.{items_of}
-use Rattle.climb.proofs.Standing.{standing_none, standing_more, standing_all}
+use Rattle.climb.proofs.Standing.{standing_more, standing_all}
 use Rattle.climb.proofs.climb.climb.Goals as goal
-
-pub loop-row-init : goal.loop-row-init
-loop-row-init g c =
-    let made = c.new-rise.ensures in (
-      standing_none made.carried made.left made.hashes.1 c.told-roots (length-map c.args.after.now.rows items_of ∙ c.args.after.now.whole),
-      made.count,
-      made.hashes.0,
-    )
 
 pub loop-row-preserved : goal.loop-row-preserved
 loop-row-preserved g c =

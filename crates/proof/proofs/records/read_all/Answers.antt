@@ -1,9 +1,6 @@
-use Rattle.std.proofs.Common.{refl, arith}
+use Rattle.std.proofs.Common.{arith}
 use Rattle.proof.proofs.Listing.{read_more, read_all, all_left, enough}
 use Rattle.proof.proofs.records.read_all.Goals as goal
-
-pub loop-i-init : goal.loop-i-init
-loop-i-init g c = refl
 
 pub loop-i-preserved : goal.loop-i-preserved
 loop-i-preserved g c =

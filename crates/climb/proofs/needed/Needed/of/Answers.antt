@@ -2,20 +2,15 @@ use Rattle.std.proofs.Common.{◌/◌, ◌^◌, ◌<◌, List, [], ◌++◌, map
 use Rattle.utreexo.specs.Values.{Image}
 use Rattle.utreexo.specs.Claims.{no_value, proof_of}
 use Rattle.utreexo.specs.Forest.{at_node}
-use Rattle.place.specs.Nodes.{node_of}
 use Rattle.targets.specs.Targets.{placed}
 use Rattle.targets.proofs.Valid.{valid_is}
 use Rattle.climb.specs.declared.item.Item.{Item}
 use Rattle.climb.specs.Rows.{step, lones}
 use Rattle.climb.specs.Held.{hashes_in}
 use Rattle.climb.specs.Needed.{nodes_of, places}
-use Rattle.climb.proofs.Standing.{rising_none, rising_more, merged_is}
-use Rattle.climb.proofs.Lacking.{lacked_none, lacked_more, lacked_all}
+use Rattle.climb.proofs.Standing.{rising_more, merged_is}
+use Rattle.climb.proofs.Lacking.{lacked_more, lacked_all}
 use Rattle.climb.proofs.needed.Needed.of.Goals as goal
-
-pub loop-row-init : goal.loop-row-init
-loop-row-init c =
-    let made = c.new-rise.ensures in (rising_none made.carried made.left made.hashes.1, lacked_none (ap (map node_of) c.new.ensures), made.count, made.hashes.0)
 
 pub loop-row-preserved : goal.loop-row-preserved
 loop-row-preserved c =

@@ -12,10 +12,3 @@ invariant_of-self g c =
     let merged : c.merge_row-items.result.items ≡ merge left_of carried here = c.merge_row-items.ensures ∙ ap (λ (l : List Item). merge left_of l here) c.as_slice.ensures.value in
     let size = ap length c.as_slice-2.ensures.value in
     record { few = few_left g.C.Compression.image carried c.step_row-raised.result.parents.items c.count_row.ensures c.split_at.ensures.front c.split_at.ensures.back merged (omega arith) c.args.self.now.few }
-
-pub returns-clause-items : goal.returns-clause-items
-returns-clause-items g c =
-    let ss = c.args.self.now.left.now in
-    let here = ap targets c.split_at.ensures.front ∙ c.count_row.ensures.taken in
-    c.merge_row-items.ensures ∙ ap (λ (l : List Item). merge left_of l (map (spent_item g.C.Compression.image) (targets c.split_at.result.0.now))) c.as_slice.ensures.value
-    ∙ ap (λ l. merge left_of c.args.self.now.carried.items (map (spent_item g.C.Compression.image) l)) here
