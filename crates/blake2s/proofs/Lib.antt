@@ -1,4 +1,4 @@
 mod Mixing
 mod Blocks
-mod Arrays
+pub mod Arrays
 pub mod Octets

@@ -14,7 +14,7 @@ pub fn check_length(block: &[u8]) -> Result<Counts, Refusal>
     let [d0, d1, h0, h1, a0, a1, ..] = block else {
         return Err(Refusal::BlockTooShort);
     };
-    // `Record::from_bytes` is no plainer: it takes a reference to the same two bytes.
+    // The pattern names the six bytes; `Record::from_bytes` over chunks of two would be no plainer.
     let counts = Counts {
         spent: u16::from_le_bytes([*d0, *d1]),
         hashes: u16::from_le_bytes([*h0, *h1]),

@@ -55,7 +55,7 @@ pub(crate) fn step_row<C: Compression>(items: &[Item], width: u32, hashes: &mut 
     Raised { parents, aside }
 }
 
-// The items that come up from the row below, and the targets of this row, from the left.
+// The items that come up from the row below, and the targets of this row, from the left. A merge takes two lists, of different lengths.
 pub(crate) fn merge_row<C: Compression>(carried: &[Item], spends: &[Spend]) -> Row
     requires { length carried.now + length spends.now ≤ 32 }
     ensures { result.items ≡ merge left_of carried.now (map (spent_item C.Compression.image) (targets spends.now)) }

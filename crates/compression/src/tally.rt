@@ -8,6 +8,7 @@ ghost use Rattle.utreexo.proofs.Fitting.{value_in_fits};
 ghost use Rattle.compression.specs.TallyOctets.{leaf_octets, pair_octets};
 
 use crate::Compression;
+use std::array;
 use utreexo::record::Record;
 use utreexo::types::{Coin, Value};
 
@@ -28,13 +29,10 @@ fn add_one_to_each(bytes: &mut [u8; 32])
     }
 }
 
-fn mix_into(left: &mut [u8; 32], right: &[u8; 32])
-    ensures { left.new ≡ zip2 pair_byte left.old right.now }
+fn mix(left: &[u8; 32], right: &[u8; 32]) -> [u8; 32]
+    ensures { result ≡ zip2 pair_byte left.now right.now }
 {
-    // Tried: `left.iter_mut().zip(right)`, whose `returns` stays open: it speaks of what the iterator has lent.
-    for (i, byte) in left.iter_mut().enumerate() {
-        *byte = mix_byte(*byte, right[i]);
-    }
+    array::from_fn(|i| mix_byte(left[i], right[i]))
 }
 
 impl Compression for Tally {
@@ -56,8 +54,6 @@ impl Compression for Tally {
     }
 
     fn pair(left: Value, right: Value) -> Value {
-        let mut bytes = left.to_bytes();
-        mix_into(&mut bytes, &right.to_bytes());
-        Value::from_bytes(&bytes)
+        Value::from_bytes(&mix(&left.to_bytes(), &right.to_bytes()))
     }
 }

@@ -8,7 +8,8 @@ use compression::{Compression, join};
 use keeper::run::{Run, leaf_value};
 use utreexo::types::{Coin, Value};
 
-// Where the value over a run stands, with `rows` rows above the slots.
+// Where the value over a run stands, with `rows` rows above the slots. `place` has the formula for positions in 64 bits by the count; one
+// for both would be no plainer.
 pub(crate) fn index_of(rows: u8, run: Run) -> usize
     requires { (rows ≤ 32) × ((run.row ≤ rows) × (run.place < 2 ^ 33)) }
     ensures { result ≡ index rows run.row run.place }
@@ -30,6 +31,7 @@ pub(crate) fn update_path<C: Compression>(
     let count = slots.len() as u32;
     let rows = place::rows(count);
     table[slot] = leaf_value::<C>(slots[slot]);
+    // Rows are numbers, and the indices go by them, so a range is the plainest form.
     for row in 1..=rows {
         let run = Run {
             row,

@@ -1,5 +1,5 @@
-// Rows, places and positions of a forest, from the count alone. The count stays a parameter beside each node: it is a number that callers
-// hold, and a struct of the two, or one around the count, would be made anew at every call.
+// Rows, places and positions of a forest, from the count alone. The count stays a parameter beside each node: it is a plain number of
+// a wallet, a bridge or a script, and a struct that holds nothing else would be no plainer.
 #![tactic(auto)]
 
 #[cfg(test)]

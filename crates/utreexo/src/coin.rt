@@ -1,4 +1,4 @@
-// A coin as bytes.
+// A coin as bytes. Coins and values are two types, so each says its own conversion; one for both would be no plainer.
 ghost use Rattle.utreexo.specs.Bytes.{coin_in, coin_bytes};
 ghost use Rattle.std.proofs.Common.{rules};
 

@@ -1,4 +1,4 @@
-// A value as bytes.
+// A value as bytes. Coins and values are two types, so each says its own conversion; one for both would be no plainer.
 ghost use Rattle.utreexo.specs.Bytes.{value_in, value_bytes};
 ghost use Rattle.std.proofs.Common.{rules};
 

@@ -2,7 +2,7 @@
 ghost use Rattle.std.specs.Prelude.{◌≡◌, ◌+◌, ◌≤◌};
 ghost use Rattle.utreexo.specs.Bytes.{part, number_in, number_bytes, four_words};
 
-// The word that begins at byte i.
+// The word that begins at byte i. Tried: `as_chunks::<8>()`, whose `returns` stays open.
 pub(crate) fn read_word(bytes: &[u8; 32], i: usize) -> u64
     requires { i + 8 ≤ 32 }
     ensures { result ≡ number_in (part i 8 bytes.now) }

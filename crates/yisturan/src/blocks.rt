@@ -20,7 +20,7 @@ pub(crate) fn read_counts(arguments: &[Argument]) -> Result<Answer, Fault> {
 // entries block
 pub(crate) fn list_entries(heap: Global, arguments: &[Argument]) -> Result<Answer, Fault> {
     let bytes = only_bytes(arguments)?;
-    // A match and no `map`: the copy may fail, and a `?` in a closure does not leave the function.
+    // A match is plainer than `map`: a refused block is not copied, and a `?` in a closure does not leave the function.
     let output = match read::check_length(bytes) {
         Ok(counts) => Ok(Output::Entries(counts, bytes.to_vec(heap)?)),
         Err(refusal) => Err(refusal),

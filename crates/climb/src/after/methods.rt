@@ -5,6 +5,7 @@ ghost use Rattle.climb.specs.After.{row_lists, look};
 
 use super::AfterValues;
 use crate::item::{Item, Row};
+use std::alloc::AllocError;
 use utreexo::types::Value;
 
 // The item at a place of a row.
@@ -37,5 +38,16 @@ impl AfterValues {
     {
         let items = self.rows.get(row as usize)?;
         item_at(items.as_slice(), place).map(|item| item.left)
+    }
+}
+
+impl Clone for AfterValues {
+    ghost is_clone = { λ t u. row_lists u ≡ row_lists t };
+
+    ghost is_infallible = { λ _. Unit {0} };
+
+    fn clone(&self) -> Result<AfterValues, AllocError> {
+        let rows = self.rows.clone()?;
+        Ok(AfterValues { rows })
     }
 }

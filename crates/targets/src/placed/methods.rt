@@ -8,13 +8,15 @@ ghost use Rattle.targets.specs.Targets.{placed, target_causes, Are};
 
 use super::Targets;
 use crate::checks::{any_above, place_all};
-use crate::spend::Spend;
+use crate::spend::{Spend, Spends};
 use block::checks::check_ascending;
 use refusal::Refusal;
+use std::alloc::AllocError;
 use utreexo::types::{Coin, Position};
 
 impl Targets {
-    // The targets at these positions of a forest of `count` slots, each with the coin of the same number.
+    // The targets at these positions of a forest of `count` slots, each with the coin of the same number. By a rule of the project a block
+    // has its targets and its coins as two lists.
     pub fn place(count: u32, positions: &[Position], coins: &[Coin]) -> Result<Targets, Refusal>
         ensures { Judged (target_causes count (numbers positions.now) coins.now) (Are count (numbers positions.now) coins.now) result }
     {
@@ -51,5 +53,20 @@ impl Targets {
         ensures few { length result.now ≤ 32 }
     {
         self.spends.as_slice()
+    }
+}
+
+impl Clone for Targets {
+    ghost is_clone = { λ t u. (u.count ≡ t.count) × (placed u ≡ placed t) };
+
+    ghost is_infallible = { λ _. Unit {0} };
+
+    fn clone(&self) -> Result<Targets, AllocError> {
+        let mut spends = Spends::new();
+        spends.try_extend_from_slice(self.as_slice()).unwrap();
+        Ok(Targets {
+            count: self.count,
+            spends,
+        })
     }
 }

@@ -6,4 +6,4 @@ use Rattle.compression.proofs.tally.TallyCompression.pair.Goals as goal
 
 pub returns : goal.returns
 returns c =
-    c.from_bytes.ensures ∙ ap value_in (c.mix_into.ensures ∙ ap₂ (zip2 pair_byte) c.to_bytes-bytes.ensures c.to_bytes.ensures)
+    c.from_bytes.ensures ∙ ap value_in (c.mix.ensures ∙ ap₂ (zip2 pair_byte) c.to_bytes.ensures c.to_bytes-2.ensures)
