@@ -1,5 +1,5 @@
 #!/usr/bin/env python3
-"""Lists the places in src/ (tests left out) that are written in one of eight older forms, as docs/DESIGN-PASS.md counts them.
+"""Lists the places in src/ (tests.rt left out) that are written in one of seven older forms, as docs/DESIGN-PASS.md counts them.
 
 Run at the top of a checkout: python3 tools/forms.py [POINT]
 It goes by text: a place that it prints is one to look at, and the page says what became of each.

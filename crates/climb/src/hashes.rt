@@ -6,7 +6,8 @@ ghost use Rattle.climb.specs.Held.{hashes_in};
 use utreexo::record::Record;
 use utreexo::types::Value;
 
-// Hashes as bytes, 32 each, and how many are used.
+// Hashes as bytes, 32 each, and how many are used. That a call leaves the bytes as they were compares two states, so each call says it:
+// no invariant can.
 #[derive(Clone, Copy)]
 pub(crate) struct Hashes<'a> {
     pub(crate) bytes: &'a [u8],

@@ -5,7 +5,8 @@ ghost use Rattle.utreexo.specs.Lists.{below};
 
 use utreexo::record::Record;
 
-// Reads `count` records, one after the other from the offset `start` on, into the front of `out`.
+// Reads `count` records, one after the other from the offset `start` on, into the front of `out`. Both numbers come from the counts of a
+// block, and `out` may be longer, so cut slices in their place would be no plainer.
 pub(crate) fn read_all<T: Record<N>, const N: usize>(
     bytes: &[u8],
     start: usize,
