@@ -41,6 +41,7 @@ impl AfterValues {
     }
 }
 
+// By hand: a derive is refused for a type with a ghost field.
 impl Clone for AfterValues {
     ghost is_clone = { λ t u. row_lists u ≡ row_lists t };
 

@@ -56,6 +56,7 @@ impl Targets {
     }
 }
 
+// By hand: a derive is refused for a type with a ghost field.
 impl Clone for Targets {
     ghost is_clone = { λ t u. (u.count ≡ t.count) × (placed u ≡ placed t) };
 
