@@ -10,3 +10,5 @@ pub mod needed;
 mod no_values;
 mod rise;
 mod step;
+#[cfg(test)]
+mod tests;

@@ -4,3 +4,5 @@
 mod checks;
 pub mod placed;
 pub mod spend;
+#[cfg(test)]
+mod tests;
