@@ -12,19 +12,19 @@ pub struct Counts {
 
 // Where the four parts of a block end, each behind the one before. One function for all is no plainer: each goes by a count of its own.
 impl Counts {
-    pub(crate) fn targets_end(self) -> usize
+    pub fn targets_end(self) -> usize
         ensures { result ≡ targets_end self }
     {
         6 + 8 * self.spent as usize
     }
 
-    pub(crate) fn spent_end(self) -> usize
+    pub fn spent_end(self) -> usize
         ensures { result ≡ spent_end self }
     {
         self.targets_end() + 32 * self.spent as usize
     }
 
-    pub(crate) fn hashes_end(self) -> usize
+    pub fn hashes_end(self) -> usize
         ensures { result ≡ hashes_end self }
     {
         self.spent_end() + 32 * self.hashes as usize
