@@ -1,15 +1,19 @@
 -- The places that the fold has in a row are the covered ones of the forest, ascending. Assumes nothing.
 use Rattle.std.proofs.Common.{◌≡◌, ℕ, zero, suc, ◌-◌, ◌/◌, ◌^◌, ◌<◌, ◌≤◌, ltb, ◌⊎◌, List, map, sym, ap, ◌∙◌, subst, inl, inr, arith}
 use Rattle.laws.proofs.Order.{Mem, From}
-use Rattle.utreexo.specs.Claims.{Target}
+use Rattle.utreexo.specs.Lists.{below}
+use Rattle.utreexo.specs.Forest.{at_node}
+use Rattle.utreexo.specs.Claims.{Target, covered}
 use Rattle.targets.proofs.Valid.{Valid}
 use Rattle.climb.specs.Rows.{front, pasts, spot, full, ups}
-use Rattle.laws.proofs.Members.{map_mem, mem_map}
-use Rattle.laws.proofs.Ordered.{from_weaker}
+use Rattle.climb.specs.After.{covered_places}
+use Rattle.laws.proofs.Members.{map_mem, mem_map, mem_filter, filter_mem}
+use Rattle.laws.proofs.Ordered.{from_weaker, filter_from, same_list}
+use Rattle.laws.proofs.Ranges.{below_from, below_mem, mem_below}
 use Rattle.climb.proofs.Walk.{ups_from, ups_mem, mem_ups, not_top, top_not}
 use Rattle.targets.proofs.Inside.{half_row}
 use Rattle.climb.proofs.Merged.{mem_merge, merge_mem, merge_from}
-use Rattle.climb.proofs.Covers.{Under, is_beneath, under_up, up_place, under_at, same_row, Beneath, under_parts, at_row_mem, mem_at_row, at_row_from}
+use Rattle.climb.proofs.Covers.{Under, covered_under, under_covered, is_beneath, under_up, up_place, under_at, same_row, Beneath, under_parts, at_row_mem, mem_at_row, at_row_from}
 
 module _ {n : ℕ} {ts : List Target} (v : Valid n ts) where
   -- the places that have a target beneath, in the row above row r
@@ -98,3 +102,18 @@ module _ {n : ℕ} {ts : List Target} (v : Valid n ts) where
               → Mem o (risen r) ⊎ Mem o (map spot (front (suc r) (pasts (suc r) ts)))
           part o u l (inl (a, b)) = inr (tgt_there (suc r) o u.tgt u.there a b)
           part o u l (inr b) = inl (mem_risen r ih o b l)
+
+  -- by the definitions
+  pub full_is : (r : ℕ) → full n ts r ≡ covered_places n ts r
+  full_is r =
+      same_list 0 0 (full n ts r) (covered_places n ts r) (is r).ascends (filter_from (λ o. covered ts (at_node r o)) 0 (below (n / 2 ^ r)) (below_from (n / 2 ^ r))) into back
+    where
+      into : (o : ℕ) → Mem o (full n ts r) → Mem o (covered_places n ts r)
+      into o m =
+          let h = (is r).sound o m in
+          mem_filter (λ o. covered ts (at_node r o)) (below (n / 2 ^ r)) o (below_mem (n / 2 ^ r) o h.inside) (under_covered ts r o h.under)
+
+      back : (o : ℕ) → Mem o (covered_places n ts r) → Mem o (full n ts r)
+      back o m =
+          let (k, e) = filter_mem (λ o. covered ts (at_node r o)) (below (n / 2 ^ r)) o m in
+          (is r).whole o (covered_under ts r o e) (mem_below (n / 2 ^ r) o k)

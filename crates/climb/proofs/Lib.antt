@@ -2,15 +2,16 @@ pub mod Chunks
 mod Lists
 mod Walk
 mod Merged
-mod Covers
-mod Full
-mod Wanted
+pub mod Covers
+pub mod Full
+pub mod Wanted
 mod Picked
-mod Claimed
+pub mod Claimed
 mod Steps
 mod Rowwise
 mod Going
 mod Merging
 mod Standing
 mod Lacking
-mod Lookups
+pub mod Lookups
+pub mod Filled

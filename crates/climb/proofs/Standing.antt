@@ -1,5 +1,5 @@
 -- The loops over the rows: what holds when a row begins.
-use Rattle.std.proofs.Common.{◌≡◌, ℕ, suc, ◌+◌, ◌*◌, ◌/◌, ◌^◌, ◌<◌, ◌≤◌, Bool, cond, not, ◌&&◌, ◌⊎◌, List, [], ◌∷◌, ◌++◌, map, length, get_or, drop, set, Some, None, Option, sym, ap, ◌∙◌, subst, inl, inr, arith}
+use Rattle.std.proofs.Common.{◌≡◌, ℕ, suc, ◌+◌, ◌*◌, ◌/◌, ◌^◌, ◌<◌, ◌≤◌, Bool, not, ◌&&◌, ◌⊎◌, List, [], ◌∷◌, ◌++◌, map, length, get_or, drop, set, None, Option, sym, ap, ◌∙◌, subst, inl, inr, arith}
 use Rattle.std.proofs.lemmas.Bool.{cases_eq}
 use Rattle.std.proofs.Math.Seq.{set-append_seam}
 use Rattle.std.proofs.lemmas.List.{append_assoc, append-nil, drop_more, drop_all, length-set, get_or-set_same, get_or-set_other, map_push}
@@ -7,16 +7,14 @@ use Rattle.utreexo.specs.declared.types.Value.{Value}
 use Rattle.climb.specs.declared.item.Item.{Item}
 use Rattle.utreexo.specs.Values.{Image}
 use Rattle.utreexo.specs.Lists.{below, any}
-use Rattle.utreexo.specs.Forest.{at_node}
-use Rattle.utreexo.specs.Claims.{Target, proof_of, covered, claim_at, after, needed, fits_root, fits, root_after}
+use Rattle.utreexo.specs.Claims.{Target, proof_of, needed, fits_root, fits, root_after}
 use Rattle.targets.proofs.Valid.{Valid}
-use Rattle.climb.specs.Rows.{front, past, pasts, full, carried, used, merge, left_of, Stepped, stepped, spent_item, step, met, renew, lookup}
-use Rattle.climb.specs.After.{left_at}
+use Rattle.climb.specs.Rows.{front, past, pasts, full, carried, used, merge, left_of, Stepped, stepped, spent_item, step, met, renew}
+use Rattle.climb.specs.After.{covered_places}
 use Rattle.climb.specs.Entries.{entry}
 use Rattle.laws.proofs.Ranges.{length_map_below}
 use Rattle.climb.proofs.Picked.{used_all}
-use Rattle.climb.proofs.Lookups.{found_left}
-use Rattle.targets.proofs.Inside.{row_low}
+use Rattle.climb.proofs.Full.{full_is}
 use Rattle.climb.proofs.Rowwise.{row_merged, row_stepped, row_aside, set_aside, row_fits_root, row_root_after, fits_more}
 
 -- one root more is written
@@ -53,7 +51,7 @@ module _ (image : Image) (n : ℕ) (ts : List Target) (hs : List Value) where
     pub all_used : next ≡ length (needed n ts)
     pub all_fit : fitting ≡ fits image (proof_of n ts hs) roots
     pub all_roots : roots_now ≡ map (root_after image (proof_of n ts hs) roots) (below 32)
-    pub all_told : (r o : ℕ) → o < n / 2 ^ r → left_at (lookup (get_or table r []) o) ≡ cond (covered ts (at_node r o)) (Some (after image (claim_at (proof_of n ts hs) r o))) None
+    pub all_told : (r : ℕ) → r < 32 → get_or table r [] ≡ map (entry image (proof_of n ts hs) r) (covered_places n ts r)
 
 module _ {image : Image} {n : ℕ} {ts : List Target} {hs : List Value} where
   -- a row's targets are merged in, and the row is taken up
@@ -131,5 +129,5 @@ module _ {image : Image} {n : ℕ} {ts : List Target} {hs : List Value} where
               all_used = s.rising.next_is ∙ used_all v hs;
               all_fit = s.fitting_is;
               all_roots = s.roots_are ∙ ap (λ (l : List (Option Value)). map (root_after image (proof_of n ts hs) roots) (below 32) ++ l) (drop_all 32 roots (omega arith)) ∙ append-nil (map (root_after image (proof_of n ts hs) roots) (below 32));
-              all_told = λ r o l. ap (λ (x : List Item). left_at (lookup x o)) (s.told r (row_low n r o v.small l)) ∙ found_left image v hs r o l;
+              all_told = λ r l. s.told r l ∙ ap (map (entry image (proof_of n ts hs) r)) (full_is v r);
             }

@@ -56,7 +56,7 @@ module _ {n : ℕ} {ts : List Target} (v : Valid n ts) where
       subst (λ x. Mem x (absent n ts r)) back (mem_lones (n / 2 ^ r) (sib q) 0 (full n ts r) i.ascends m (top_not (n / 2 ^ r) (sib q) (omega arith))
       (λ j. both_ways (covered ts (at_node r q)) k.clear (under_covered ts r q (subst (λ x. Under ts r x) back (i.sound (sib (sib q)) j).under))))
 
-  lacks_in : (r q : ℕ) → Lacks r q → q < n / 2 ^ r
+  pub lacks_in : (r q : ℕ) → Lacks r q → q < n / 2 ^ r
   lacks_in r q k = let p = k.parent in omega (arith, half_row n r)
 
   -- needed, by the definition

@@ -6,7 +6,7 @@ use crate::item::Row;
 // The covered places, row by row.
 #[derive(Drop)]
 pub struct AfterValues {
-    rows: [Row; 32],
+    pub(crate) rows: [Row; 32],
     ghost whole: { length rows ≡ 32 },
 }
 

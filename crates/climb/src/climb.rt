@@ -2,12 +2,13 @@
 ghost use Rattle.std.specs.Prelude.{◌≡◌, map, length};
 ghost use Rattle.utreexo.specs.Lists.{below};
 ghost use Rattle.utreexo.specs.Claims.{needed, fits, root_after};
-ghost use Rattle.climb.specs.After.{Tells};
+ghost use Rattle.climb.specs.After.{Fills};
 ghost use Rattle.climb.specs.Claimed.{claims};
 ghost use Rattle.targets.specs.Targets.{placed};
 
 use crate::above::{meets_root, root_after};
 use crate::after::AfterValues;
+use crate::item::Row;
 use crate::rise::Rise;
 use compression::Compression;
 use targets::placed::Targets;
@@ -33,18 +34,17 @@ pub fn climb<C: Compression>(
     ensures used { result.used ≡ length (needed targets.now.count (placed targets.now)) }
     ensures fitting { result.fitting ≡ fits C.Compression.image (claims targets.now hashes.now) roots.now }
     ensures roots { result.roots ≡ map (root_after C.Compression.image (claims targets.now hashes.now) roots.now) (below 32) }
-    ensures after { Tells C.Compression.image (claims targets.now hashes.now) after.new }
+    ensures after { Fills C.Compression.image (claims targets.now hashes.now) after.new }
 {
     let mut rise = Rise::new(targets, hashes);
     let mut fitting = true;
     let mut roots_after = *roots;
     // A row is a number here: it shifts the count and tells the targets of the row, so an iterator over the roots is no plainer.
     for row in 0..32u8 {
-        let worked = rise.work::<C>(row);
+        let aside = rise.work::<C>(row, &mut after.rows[row as usize]);
         let root = roots[row as usize];
-        fitting &= meets_root(worked.aside, root);
-        roots_after[row as usize] = root_after(worked.aside, root);
-        after.set_row(row, worked.items);
+        fitting &= meets_root(aside, root);
+        roots_after[row as usize] = root_after(aside, root);
     }
     Climbed {
         used: rise.hashes.used,

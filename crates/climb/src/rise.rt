@@ -22,14 +22,6 @@ pub(crate) struct Rise<'a> {
     ghost few: { length carried.items + length left.now ≤ 32 },
 }
 
-// A row worked out: its items, and that of its root, if the root is covered. `Raised` is of the row above: one type for both would be no
-// plainer.
-#[derive(Drop)]
-pub(crate) struct Worked {
-    pub(crate) items: Row,
-    pub(crate) aside: Option<Item>,
-}
-
 impl Rise<'_> {
     // Where the rows begin: nothing comes from below the slots.
     pub(crate) fn new<'a>(targets: &'a Targets, hashes: &'a [u8]) -> Rise<'a>
@@ -49,25 +41,22 @@ impl Rise<'_> {
         }
     }
 
-    // Works a row out, once those below it are, and goes up.
-    pub(crate) fn work<C: Compression>(&mut self, row: u8) -> Worked
+    // Works a row out, once those below it are, and goes up. The answer is the item of the row's root, if that is covered.
+    pub(crate) fn work<C: Compression>(&mut self, row: u8, items: &mut Row) -> Option<Item>
         requires low { row < 32 }
         requires fits { self.old.hashes.used < 2 ^ 32 }
-        ensures items { result.items.items ≡ merge left_of self.old.carried.items (map (spent_item C.Compression.image) (front row (targets self.old.left.now))) }
-        ensures room { length result.items.items ≤ 32 }
+        ensures items { items.new.items ≡ merge left_of self.old.carried.items (map (spent_item C.Compression.image) (front row (targets self.old.left.now))) }
+        ensures room { length items.new.items ≤ 32 }
         ensures left { targets self.new.left.now ≡ past row (targets self.old.left.now) }
-        ensures made { stepped self.new.carried.items result.aside self.new.hashes.used ≡ step C.Compression.image (hashes_in self.old.hashes.bytes.now) (self.old.count / 2 ^ row) self.old.hashes.used None result.items.items }
+        ensures made { stepped self.new.carried.items result self.new.hashes.used ≡ step C.Compression.image (hashes_in self.old.hashes.bytes.now) (self.old.count / 2 ^ row) self.old.hashes.used None items.new.items }
         ensures used { self.new.hashes.used ≤ self.old.hashes.used + 32 }
         ensures same { (self.new.count ≡ self.old.count) × (self.new.hashes.bytes ≡ self.old.hashes.bytes) }
     {
         let (here, higher) = self.left.split_at(count_row(self.left, row));
-        let items = merge_row::<C>(self.carried.as_slice(), here);
-        let raised = step_row::<C>(items.as_slice(), self.count >> row, &mut self.hashes);
+        merge_row::<C>(self.carried.as_slice(), here, items);
+        let width = self.count >> row;
+        let aside = step_row::<C>(items.as_slice(), width, &mut self.hashes, &mut self.carried);
         self.left = higher;
-        self.carried = raised.parents;
-        Worked {
-            items,
-            aside: raised.aside,
-        }
+        aside
     }
 }

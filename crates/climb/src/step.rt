@@ -10,13 +10,6 @@ use crate::item::{Item, Row};
 use compression::Compression;
 use targets::spend::Spend;
 
-// The items of the row above; and the item of this row's root, if that is covered, which has nothing above it.
-#[derive(Drop)]
-pub(crate) struct Raised {
-    pub(crate) parents: Row,
-    pub(crate) aside: Option<Item>,
-}
-
 // The item's right sibling, if it is the first of those that come after it; and the others.
 pub(crate) fn split_sibling(item: Item, after: &[Item]) -> Option<(Item, &[Item])>
     ensures { MatchOption result (alone_item item after.now ≡ true) (λ p. (after.now ≡ p.0 ∷ p.1.now) × (beside item.place p.0.place ≡ true)) }
@@ -29,15 +22,21 @@ pub(crate) fn split_sibling(item: Item, after: &[Item]) -> Option<(Item, &[Item]
     }
 }
 
-// Takes the items of a row of `width` places to the row above, from the left.
-pub(crate) fn step_row<C: Compression>(items: &[Item], width: u32, hashes: &mut Hashes) -> Raised
+// Takes the items of a row of `width` places to the row above, from the left; the item of this row's root, if that is covered, has
+// nothing above it and is the answer. A row is lent to be filled, here and below: one that is returned is on the stack several times.
+pub(crate) fn step_row<C: Compression>(
+    items: &[Item],
+    width: u32,
+    hashes: &mut Hashes,
+    parents: &mut Row,
+) -> Option<Item>
     requires { (length items.now ≤ 32) × (hashes.old.used < 2 ^ 32) }
-    ensures made { stepped result.parents.items result.aside hashes.new.used ≡ step C.Compression.image (hashes_in hashes.old.bytes.now) width hashes.old.used None items.now }
+    ensures made { stepped parents.new.items result hashes.new.used ≡ step C.Compression.image (hashes_in hashes.old.bytes.now) width hashes.old.used None items.now }
     ensures count { hashes.new.used ≤ hashes.old.used + length items.now }
     ensures bytes { hashes.new.bytes ≡ hashes.old.bytes }
-    ensures room { length result.parents.items ≤ length items.now }
+    ensures room { length parents.new.items ≤ length items.now }
 {
-    let mut parents = Row::new();
+    parents.clear();
     let mut aside = None;
     let mut rest = items;
     while let Some((item, after)) = rest.split_first() {
@@ -52,15 +51,15 @@ pub(crate) fn step_row<C: Compression>(items: &[Item], width: u32, hashes: &mut 
             rest = after;
         }
     }
-    Raised { parents, aside }
+    aside
 }
 
 // The items that come up from the row below, and the targets of this row, from the left. A merge takes two lists, of different lengths.
-pub(crate) fn merge_row<C: Compression>(carried: &[Item], spends: &[Spend]) -> Row
+pub(crate) fn merge_row<C: Compression>(carried: &[Item], spends: &[Spend], row: &mut Row)
     requires { length carried.now + length spends.now ≤ 32 }
-    ensures { result.items ≡ merge left_of carried.now (map (spent_item C.Compression.image) (targets spends.now)) }
+    ensures { row.new.items ≡ merge left_of carried.now (map (spent_item C.Compression.image) (targets spends.now)) }
 {
-    let mut row = Row::new();
+    row.clear();
     let mut rest = carried;
     // There is room for all of them, so that neither call can fail.
     for spend in spends {
@@ -74,7 +73,6 @@ pub(crate) fn merge_row<C: Compression>(carried: &[Item], spends: &[Spend]) -> R
         rest = after;
     }
     row.try_extend_from_slice(rest).unwrap();
-    row
 }
 
 // How many targets are of this row, of those in front.

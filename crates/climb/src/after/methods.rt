@@ -1,10 +1,11 @@
-// Filling the table of after-values, and looking one up.
-ghost use Rattle.std.specs.Prelude.{◌≡◌, ℕ, ◌<◌, None, slice_set};
+// An empty table of after-values, and looking one up.
+ghost use Rattle.std.specs.Prelude.{◌≡◌, ℕ, [], None, slice_index_or};
 ghost use Rattle.climb.specs.Rows.{lookup};
 ghost use Rattle.climb.specs.After.{row_lists, look};
 
 use super::AfterValues;
-use crate::item::{Item, Row};
+use crate::item::Item;
+use arrayvec::ArrayVec;
 use std::alloc::AllocError;
 use utreexo::types::Value;
 
@@ -25,19 +26,18 @@ impl AfterValues {
         }
     }
 
-    pub(crate) fn set_row(&mut self, row: u8, items: Row)
-        requires { row < 32 }
-        ensures { row_lists self.new ≡ slice_set (row_lists self.old) row items.items }
+    // The covered places of a row, from the left, with what is claimed there and what is left; none in a row past the last.
+    pub fn row(&self, row: u8) -> &[Item]
+        ensures { result.now ≡ slice_index_or (row_lists self.now) row [] }
     {
-        self.rows[row as usize] = items;
+        self.rows.get(row as usize).map_or(&[], ArrayVec::as_slice)
     }
 
     // The after-value of a covered place; None where the place is not covered.
     pub fn at(&self, row: u8, place: u32) -> Option<Option<Value>>
         ensures { result ≡ look self.now row place }
     {
-        let items = self.rows.get(row as usize)?;
-        item_at(items.as_slice(), place).map(|item| item.left)
+        item_at(self.row(row), place).map(|item| item.left)
     }
 }
 

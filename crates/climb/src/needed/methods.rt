@@ -1,6 +1,6 @@
 // Finding the needed positions. A climb that works no value out finds the rows.
-ghost use Rattle.std.specs.Prelude.{◌≡◌, ◌+◌, ◌≤◌, ◌++◌, map, length};
-ghost use Rattle.place.specs.Nodes.{node_of};
+ghost use Rattle.std.specs.Prelude.{◌≡◌, ◌+◌, ◌≤◌, true, ◌++◌, map, length, All};
+ghost use Rattle.place.specs.Nodes.{node_of, inside};
 ghost use Rattle.utreexo.specs.Claims.{needed as needed_positions};
 ghost use Rattle.utreexo.specs.Forest.{at_node};
 ghost use Rattle.targets.specs.Targets.{placed};
@@ -9,7 +9,7 @@ ghost use Rattle.climb.specs.Needed.{nodes_of, numbered, places};
 
 use super::Needed;
 use crate::above::is_top;
-use crate::item::Item;
+use crate::item::{Item, Row};
 use crate::no_values::NoValues;
 use crate::rise::Rise;
 use crate::step::split_sibling;
@@ -40,20 +40,35 @@ impl Needed {
         }
     }
 
-    // The needed positions of targets: those whose sibling is covered, and which are not covered themselves.
+    // The needed positions of targets: those whose sibling is covered, and which are not covered themselves. All are in the forest, so
+    // that a position is none other's.
     pub fn of(targets: &Targets) -> Needed
-        ensures { numbered targets.now.count (nodes_of result) ≡ needed_positions targets.now.count (placed targets.now) }
+        ensures positions { numbered targets.now.count (nodes_of result) ≡ needed_positions targets.now.count (placed targets.now) }
+        ensures places { All (λ d. inside targets.now.count d ≡ true) (nodes_of result) }
     {
         let mut needed = Needed {
             nodes: ArrayVec::new(),
         };
         let mut rise = Rise::new(targets, &[]);
+        let mut items = Row::new();
         // A row is a number here, as in `climb`.
         for row in 0..32u8 {
-            let worked = rise.work::<NoValues>(row);
-            needed.push_siblings(row, worked.items.as_slice(), targets.count() >> row);
+            rise.work::<NoValues>(row, &mut items);
+            needed.push_siblings(row, items.as_slice(), targets.count() >> row);
         }
         needed
+    }
+
+    // How many they are. In memory the list is as large as three rows, so no list is made to be counted.
+    pub fn count(targets: &Targets) -> usize
+        ensures { result ≡ length (needed_positions targets.now.count (placed targets.now)) }
+    {
+        let mut rise = Rise::new(targets, &[]);
+        let mut items = Row::new();
+        for row in 0..32u8 {
+            rise.work::<NoValues>(row, &mut items);
+        }
+        rise.hashes.used
     }
 
     // Their places, ascending.

@@ -9,6 +9,6 @@ pub invariant_of-self : goal.invariant_of-self
 invariant_of-self g c =
     let carried = c.args.self.now.carried.items in
     let here : List Item = map (spent_item g.C.Compression.image) (targets c.split_at.result.0.now) in
-    let merged : c.merge_row-items.result.items ≡ merge left_of carried here = c.merge_row-items.ensures ∙ ap (λ (l : List Item). merge left_of l here) c.as_slice.ensures.value in
+    let merged : c.merge_row.new.row.items ≡ merge left_of carried here = c.merge_row.ensures ∙ ap (λ (l : List Item). merge left_of l here) c.as_slice.ensures.value in
     let size = ap length c.as_slice-2.ensures.value in
-    record { few = few_left g.C.Compression.image carried c.step_row-raised.result.parents.items c.count_row.ensures c.split_at.ensures.front c.split_at.ensures.back merged (omega arith) c.args.self.now.few }
+    record { few = few_left g.C.Compression.image carried c.step_row-aside.new.parents.items c.count_row.ensures c.split_at.ensures.front c.split_at.ensures.back merged (omega arith) c.args.self.now.few }
