@@ -1,1 +1,3 @@
+pub mod Chain
 mod Listing
+mod Parts

@@ -1,6 +1,11 @@
 // The checks of a block against a count and roots, in ascending number, each over the whole block before the next. Nothing here
-// allocates. The layers and the reading of records are here; the check over them is still to be written.
+// allocates.
 #![tactic(auto)]
 
+pub mod accepted;
+pub mod judge;
 mod layers;
+pub mod readable;
 mod records;
+#[cfg(test)]
+mod tests;
