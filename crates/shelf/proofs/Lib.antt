@@ -1,0 +1,5 @@
+pub mod Finding
+pub mod Standing
+pub mod Struck
+mod Closing
+mod Carded

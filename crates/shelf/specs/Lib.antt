@@ -1,0 +1,4 @@
+pub mod Held
+pub mod Finding
+pub mod Shown
+pub mod Views
