@@ -1,0 +1,4 @@
+pub mod Places
+pub mod Rising
+pub mod Carrying
+pub mod Joining
