@@ -1,0 +1,6 @@
+mod Closing
+mod Leaving
+mod Striking
+mod Standing
+mod Telling
+mod Shelves

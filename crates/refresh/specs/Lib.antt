@@ -1,0 +1,2 @@
+pub mod Refreshed
+pub mod Spent
