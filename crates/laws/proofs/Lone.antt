@@ -36,6 +36,10 @@ abbrev sib_positions : ℕ → ℕ → ℕ → ℕ → List ℕ
 sib_positions n r o zero = []
 sib_positions n r o (suc d) = position n r (sib o) ∷ sib_positions n (suc r) (o / 2) d
 
+length_sibs : (n r o d : ℕ) → length (sib_positions n r o d) ≡ d
+length_sibs n r o zero = refl
+length_sibs n r o (suc d) = ap suc (length_sibs n (suc r) (o / 2) d)
+
 -- a sibling is another place
 pub sib_other : (o : ℕ) → ¬ (sib o ≡ o)
 sib_other o e = let a = sib_mod o in let b : sib o % 2 ≡ o % 2 = ap (λ x. x % 2) e in omega arith
@@ -154,6 +158,10 @@ module _ (image : Image) (s : Slots) (small : length s < 2 ^ 32) (t : Target) (h
                     absurd (sib_other (up f o₀) (sym y ∙ ap (λ f. up f o₀) w)))
                 | inr b ↦ b
               ]
+
+  -- so there is one for each row below the root
+  pub needed_count : (k p d : ℕ) → Top (length s) k p → d + r₀ ≡ k → up d o₀ ≡ p → length (needed (length s) (t ∷ [])) ≡ d
+  needed_count k p d top e q = ap length (needed_one k p d top e q) ∙ length_sibs (length s) r₀ o₀ d
 
   -- the path of the target's slot is the hashes of a genuine proof
   pub fresh_path : (i : ℕ) → LiveAt s r₀ o₀ i t.coin

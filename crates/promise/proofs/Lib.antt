@@ -14,11 +14,12 @@ mod Watching
 mod Steps
 -- runs
 mod Runs
+pub mod Agreement
 -- blocks as bytes
 mod Composed
 mod Octets
 -- what a bridge serves
-mod Undone
+pub mod Undone
 mod Built
 mod Words
 mod Naming
@@ -27,4 +28,4 @@ mod Cards
 mod Served
 mod Hypotheses
 -- the whole promise
-mod Promise
+pub mod Promise

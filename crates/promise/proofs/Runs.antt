@@ -19,7 +19,7 @@ module _ (image : Image) where
   head_same a b xs ys e = (cc, cc)
 
   -- one call of a wallet that has what the register has
-  call_kept : (w : Wallet) (r : Register) → Kept image w r → (c : Call) → (wallet_step image c w).answer ≡ (register_step image c r).answer
+  pub call_kept : (w : Wallet) (r : Register) → Kept image w r → (c : Call) → (wallet_step image c w).answer ≡ (register_step image c r).answer
       → Kept image (wallet_step image c w).state (register_step image c r).state
   call_kept w r k c e =
       subst (λ w. Kept image (wallet_step image c w).state (register_step image c r).state) (sym k.same)
@@ -36,7 +36,7 @@ module _ (image : Image) where
       runs_kept cs (wallet_step image c w).state (register_step image c r).state (call_kept w r k c h) t
 
   -- a new wallet has what a new register has
-  new_kept : (places : ℕ) → Kept image (new_wallet places) (new_register places)
+  pub new_kept : (places : ℕ) → Kept image (new_wallet places) (new_register places)
   new_kept places =
       record { same = refl; sound = record { now = record { small = omega arith; live = λ w m. absurd m; once = tt }; past = λ p m. absurd m } }
 

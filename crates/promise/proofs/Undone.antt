@@ -18,7 +18,7 @@ use Rattle.laws.proofs.Ranges.{below_mem}
 use Rattle.laws.proofs.Slots.{slot_low, left, length_left, left_at, slot_coin, spent_live}
 
 -- slots that agree with t but at ws are t once ws are refilled
-refills : (t : Slots) (h : ℕ → Coin) (ws : List ℕ) (s : Slots) → length s ≡ length t
+pub refills : (t : Slots) (h : ℕ → Coin) (ws : List ℕ) (s : Slots) → length s ≡ length t
     → ((i : ℕ) → (get_or s i None ≡ get_or t i None) ⊎ Mem i ws)
     → ((w : ℕ) → Mem w ws → get_or t w None ≡ Some (h w)) → refilled ws (map h ws) s ≡ t
 refills t h [] s l a b = ext_get_or None s t l (λ i q. elim (a i) [ inl e ↦ e | inr m ↦ absurd m ])

@@ -6,10 +6,11 @@ ghost use Rattle.std.specs.Prelude.{ℕ, ◌⊎◌, List};
 ghost use Rattle.utreexo.specs.Bytes.{Octets};
 ghost use Rattle.utreexo.specs.Values.{Image, CoinFits, ImageFits};
 ghost use Rattle.utreexo.specs.Checks.{read_causes};
-ghost use Rattle.utreexo.specs.Wallet.{new_wallet, Call};
+ghost use Rattle.utreexo.specs.Wallet.{Wallet, Call, new_wallet, wallet_step};
 ghost use Rattle.utreexo.specs.Register.{new_register, register_take_causes};
 ghost use Rattle.utreexo.specs.Bridge.{GivenOctets};
 ghost use Rattle.utreexo.specs.Promise.{Agreed, ServedWhere, Faithful};
+ghost use Rattle.promise.specs.Agreement.{Keeps};
 ghost use Rattle.promise.specs.Theorems.{Parting, OneToOne, AlwaysAgreed, BlocksStep, CardsWatched, BridgeTakes, BridgeWrites, ReadBack, WriteBack};
 
 // Wallet and collection cannot part without leaving evidence, and until they do, a bridge serves the wallet.
@@ -25,6 +26,11 @@ pub fn runs_judged()
 // Where no two inputs have one image, every run agrees.
 pub fn always_agreed()
     ensures { AlwaysAgreed OneToOne }
+{}
+
+// A call of a wallet keeps its agreement with every register, or is caught.
+pub fn steps_keep_agreement()
+    ensures { (image : Image) (call : Call) (w : Wallet) → Keeps image call w (wallet_step image call w).answer (wallet_step image call w).state }
 {}
 
 // The third part of the promise is false of images that pass their words.
