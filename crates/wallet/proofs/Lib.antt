@@ -1,0 +1,5 @@
+mod Chain
+mod Filling
+mod OneTarget
+mod Watching
+mod Steps

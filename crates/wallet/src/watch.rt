@@ -1,0 +1,79 @@
+// A card's coin on the shelf.
+ghost use Rattle.std.specs.Prelude.{◌≡◌, ◌+◌, ◌/◌, ◌≤◌, ◌++◌, length, slice_index_or};
+ghost use Rattle.utreexo.specs.Claims.{no_value};
+ghost use Rattle.utreexo.specs.Blocks.{entries};
+ghost use Rattle.utreexo.specs.Outcomes.{Judged};
+ghost use Rattle.utreexo.specs.Wallet.{watch_causes, with_shelf, held_from};
+ghost use Rattle.climb.specs.Held.{hashes_in};
+ghost use Rattle.targets.specs.Spends.{target_of};
+ghost use Rattle.shelf.specs.Held.{held_of, shelf_of};
+ghost use Rattle.shelf.specs.Views.{view_of};
+ghost use Rattle.wallet.specs.Cards.{card_causes, held_with, IsOf};
+
+use block::checks::check_card;
+use climb::after::AfterValues;
+use compression::Compression;
+use proof::judge::judge;
+use proof::readable::Block;
+use refusal::Refusal;
+use shelf::record::Record;
+use shelf::state::State;
+use std::array;
+use targets::spend::Spend;
+use utreexo::record::Record as FromBytes;
+use utreexo::types::Value;
+
+// The hash of this number, of 32 bytes each; zero where there are fewer.
+fn hash_at(hashes: &[u8], index: usize) -> Value
+    ensures { result ≡ slice_index_or (hashes_in hashes.now) index no_value }
+{
+    let (chunks, _) = hashes.as_chunks::<32>();
+    chunks
+        .get(index)
+        .map_or(Value::default(), Value::from_bytes)
+}
+
+// The record of a target's coin, with these hashes for its path.
+fn record_of(target: Spend, hashes: &[u8]) -> Record
+    requires { target.node.row + length hashes.now / 32 ≤ 31 }
+    ensures { held_of result ≡ held_with (target_of target) (hashes_in hashes.now) }
+{
+    Record {
+        coin: target.coin,
+        row: target.node.row,
+        place: target.node.place,
+        path: array::from_fn(|i| hash_at(hashes, i)),
+        len: (hashes.len() / 32) as u8,
+    }
+}
+
+// The one target of a card, once all is checked that take checks too, except for the limit: a card adds no coin.
+fn judge_card<C: Compression>(state: &State, card: &Block) -> Result<Spend, Refusal>
+    ensures { Judged (card_causes C.Compression.image state.now.count state.now.roots card.now.bytes.now) (IsOf state.now.count card.now.bytes.now) result }
+{
+    let Ok(()) = card.check_order() else {
+        return Err(Refusal::TargetsNotAscending);
+    };
+    let Ok(()) = check_card(card.counts()) else {
+        return Err(Refusal::NotACard);
+    };
+    let mut after = AfterValues::empty();
+    let accepted = judge::<C>(state.count, &state.roots, card, &mut after)?;
+    Ok(accepted.targets.as_slice()[0])
+}
+
+// The state once a card is watched.
+pub(crate) fn watched<C: Compression>(state: State, bytes: &[u8]) -> Result<State, Refusal>
+    ensures { Judged (watch_causes C.Compression.image (view_of state) bytes.now) (λ s. view_of s ≡ with_shelf (view_of state) (shelf_of state.shelf ++ held_from state.count (entries bytes.now))) result }
+{
+    let card = Block::read(bytes)?;
+    let target = judge_card::<C>(&state, &card)?;
+    let None = state.shelf.find(target.node) else {
+        return Err(Refusal::AlreadyOnShelf);
+    };
+    let mut next = state;
+    let Ok(()) = next.shelf.push(record_of(target, card.hashes())) else {
+        return Err(Refusal::ShelfFull);
+    };
+    Ok(next)
+}
