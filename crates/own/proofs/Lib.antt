@@ -1,0 +1,5 @@
+mod Arrays
+mod Halves
+mod Down
+mod Going
+pub mod Slots
