@@ -1,0 +1,8 @@
+use Rattle.std.proofs.Common.{◌≡◌, drop}
+use Rattle.undo.specs.Marks.{present, fills}
+use Rattle.undo.proofs.record.UndoRecord.undo.Given as goal
+
+abbrev pub invariant-loop-entry : goal.invariant-loop-entry
+invariant-loop-entry g l =
+    (g.K.Keeper.limit l.keeper ≡ g.K.Keeper.limit l.initial.keeper)
+    × (fills (present (drop l.entry-index l.entry-items)) (g.K.Keeper.slots l.keeper) ≡ fills (present l.entry-items) (g.K.Keeper.slots l.initial.keeper))
