@@ -1,0 +1,4 @@
+pub mod State
+pub mod Taking
+pub mod Spends
+pub mod Runs
