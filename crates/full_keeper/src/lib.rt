@@ -30,7 +30,8 @@ pub struct Full<C: Compression> {
 }
 
 impl<C: Compression> Full<C> {
-    // Reserves all the memory that it will use, and fails if there is not so much.
+    // Reserves all the memory that it will use, and writes the whole table, all absent. The error is want of memory, and comes too for a
+    // capacity that is too large to hold.
     pub fn new(heap: Global, capacity: u32) -> Result<Full<C>, AllocError>
         ensures { IfOk result (λ m. (m.bare.coins.items ≡ []) × (m.bare.limit ≡ capacity)) }
     {

@@ -36,7 +36,8 @@ fn value_over<C: Compression>(slots: &[Option<Coin>], run: Run) -> Option<Value>
 }
 
 impl<C: Compression> Bare<C> {
-    // Reserves all the memory that it will use: no later call allocates.
+    // Reserves all the memory that it will use: no later call allocates. The error is want of memory, and comes too for a capacity that is
+    // too large to hold.
     pub fn new(heap: Global, capacity: u32) -> Result<Bare<C>, AllocError>
         ensures { IfOk result (λ m. (m.coins.items ≡ []) × (m.limit ≡ capacity)) }
     {
