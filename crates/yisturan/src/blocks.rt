@@ -1,20 +1,16 @@
 // Script calls on blocks as bytes.
-use crate::answer::{Answer, Output};
-use crate::arguments::{Argument, only_bytes};
+use crate::arguments::{Argument, buffer, only_bytes, records};
 use crate::fault::*;
+use answer::{Answer, Output, Shown};
 use block::{compose, read};
 use std::alloc::Global;
-use utreexo::record::Record;
 use utreexo::types::{Coin, Position, Value};
-
-// Output buffers are filled with this byte before a call, so that a reader sees what was left alone.
-const FILL: u8 = 0xee;
 
 // read block
 pub(crate) fn read_counts(arguments: &[Argument]) -> Result<Answer, Fault> {
     let bytes = only_bytes(arguments)?;
     let output = read::check_length(bytes).map(Output::Counts);
-    Ok(Answer::from(output))
+    Ok(Answer::new(Shown::Nothing, output))
 }
 
 // entries block
@@ -25,20 +21,7 @@ pub(crate) fn list_entries(heap: Global, arguments: &[Argument]) -> Result<Answe
         Ok(counts) => Ok(Output::Entries(counts, bytes.to_vec(heap)?)),
         Err(refusal) => Err(refusal),
     };
-    Ok(Answer::from(output))
-}
-
-// The records that the bytes stand for, N bytes each.
-fn records<T: Record<N> + Drop, const N: usize>(
-    heap: Global,
-    bytes: &[u8],
-) -> Result<Vec<T>, Fault> {
-    let (chunks, rest) = bytes.as_chunks::<N>();
-    if !rest.is_empty() {
-        return Err(Fault::Mismatched);
-    }
-    let records = chunks.iter().map(|chunk| T::from_bytes(chunk));
-    Ok(records.collect(heap)?)
+    Ok(Answer::new(Shown::Nothing, output))
 }
 
 // compose targets,spent,hashes,new,#length
@@ -57,7 +40,7 @@ pub(crate) fn compose_block(heap: Global, arguments: &[Argument]) -> Result<Answ
     let spent = records::<Coin, _>(heap, spent.as_slice())?;
     let hashes = records::<Value, _>(heap, hashes.as_slice())?;
     let coins = records::<Coin, _>(heap, coins.as_slice())?;
-    let mut out = vec![in heap; FILL; *length as usize]?;
+    let mut out = buffer(heap, *length)?;
     let composed = compose::compose(
         targets.as_slice(),
         spent.as_slice(),
@@ -67,6 +50,7 @@ pub(crate) fn compose_block(heap: Global, arguments: &[Argument]) -> Result<Answ
     );
     Ok(Answer {
         refusal: composed.err(),
-        output: Some(Output::Buffer(out)),
+        shown: Shown::Nothing,
+        output: Output::Buffer(out),
     })
 }

@@ -14,6 +14,14 @@ pub(crate) enum Fault {
     Unreadable,
     #[error("the call does not take these arguments")]
     Mismatched,
+    #[error("the call needs a compression, 1 (BLAKE2s) or 2 (Tally)")]
+    NoCompression,
+    #[error("there is no keeper yet: keeper.new makes one")]
+    NoKeeper,
+    #[error("there is no bridge yet: bridge.new makes one")]
+    NoBridge,
+    #[error("there is no wallet yet: new makes one")]
+    NoWallet,
     #[error("there is no memory for this line")]
     Memory(#[from(alloc)] AllocError),
 }

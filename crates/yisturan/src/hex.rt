@@ -1,25 +1,8 @@
-// Bytes as lowercase hexadecimal digits.
+// Bytes from lowercase hexadecimal digits.
 ghost use Rattle.std.specs.Prelude.{◌<◌, Some, None};
 
 use crate::fault::*;
 use std::alloc::Global;
-use std::fmt;
-
-// Bytes to be printed; no bytes are `.`.
-#[derive(Clone, Copy)]
-pub(crate) struct Hex<'a>(pub(crate) &'a [u8]);
-
-impl fmt::Display for Hex<'_> {
-    fn fmt<W: fmt::Write>(&self, f: &mut fmt::Formatter<W>) -> fmt::Result {
-        if self.0.is_empty() {
-            return write!(f, ".");
-        }
-        for byte in self.0 {
-            write!(f, "{byte:02x}")?;
-        }
-        Ok(())
-    }
-}
 
 // The value of a digit.
 fn digit(c: u8) -> Option<u8>

@@ -1,23 +1,25 @@
 // Yisturan from the command line. Each word is a task, and the tasks are done in order; no word asks for the demonstration.
 #![tactic(auto)]
 
-mod answer;
 mod arguments;
 mod blocks;
+mod bridges;
 mod demonstration;
 mod fault;
+mod hashing;
 mod hex;
+mod keepers;
+mod many;
 mod places;
+mod request;
 mod script;
+mod session;
+mod sides;
+mod wallets;
 
 use anyhow::anyhow;
-use demonstration::*;
+use demonstration::demonstrate;
 use std::env;
-
-fn demonstrate(rt: &HostRuntime) -> anyhow::Result<()> {
-    rt.print(Demonstration)?;
-    Ok(())
-}
 
 fn perform(rt: &HostRuntime, task: &str) -> anyhow::Result<()> {
     // A task is a word from outside, so it is matched as text; closures in its place would only hide these names.
