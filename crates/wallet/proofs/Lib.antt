@@ -1,5 +1,6 @@
 mod Chain
 mod Filling
 mod OneTarget
+mod Running
 mod Watching
 mod Steps

@@ -2,6 +2,7 @@
 #![tactic(auto)]
 
 mod calls;
+mod runs;
 mod step;
 #[cfg(test)]
 mod tests;

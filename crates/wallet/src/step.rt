@@ -1,4 +1,4 @@
-// What a block makes of a state. Each function works on a copy, so that a refusal leaves all as it was.
+// What a block makes of a state. `taken` works on a copy, so that a refusal leaves all as it was; `checked` only reads.
 ghost use Rattle.std.specs.Prelude.{◌≡◌};
 ghost use Rattle.utreexo.specs.Outcomes.{Judged};
 ghost use Rattle.utreexo.specs.Wallet.{take_causes, view_after};
