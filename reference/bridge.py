@@ -1,14 +1,11 @@
 """Keepers, and the bridge, which sees its slots through a keeper's answers alone."""
 
 from blocks import MOST_NEW, MOST_SPENT, ascending, block_bytes, put, read
-from checks import against_count, against_roots
+from checks import against_count, challenge
 from compressions import leaf, pair
 from forest import (
     MOST_SLOTS,
     Forest,
-    claims,
-    covered,
-    fits,
     inside,
     join,
     locate,
@@ -142,7 +139,7 @@ class Bridge:
         self.most_slots = most_slots
         self.history = History(MOST_MARKS)  # (count, the blanked slots with their coins)
 
-    count = property(lambda self: self.keeper.count)
+    count = n = property(lambda self: self.keeper.count)
     root_list = property(lambda self: list(self.roots().values()))
 
     def value(self, row, place):
@@ -269,15 +266,4 @@ class Bridge:
         return put(out, block_bytes(positions, coins, self.fresh(positions), new))
 
     def challenge(self, data):
-        n, roots = self.count, self.roots()
-        number, block = against_roots(n, roots, data)
-        if not number and not fits(self.compression, n, roots, *block[:3]):
-            number = 10
-        if number:
-            return number, None
-        inputs, _ = claims(self.compression, n, *block[:3])
-        for p in sorted(covered(n, block.targets), reverse=True):
-            own = self.own_input(p)
-            if own != inputs[p]:
-                return 0, (p, own, inputs[p])
-        return 0, None
+        return challenge(self, data)

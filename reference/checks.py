@@ -26,8 +26,21 @@ def against_roots(n, roots, data, card=False):
     return number, None if number else block
 
 
+def judged(n, roots, data, card, passes, most_slots):
+    """The first of 1 to 11 that holds, and the block if none does; `passes` tells whether a proof passes 10."""
+    number, block = against_roots(n, roots, data, card)
+    if not number and not passes(block):
+        number = 10
+    if not number and n + len(block.new) > most_slots:
+        number = 11
+    return number, block
+
+
 def challenge(forest, data):
-    """(number, None) of a block that the forest's roots refuse; (0, None) if it stands; or (0, (position, own, claimed))."""
+    """(number, None) of a block that the forest's roots refuse; (0, None) if it stands; or (0, (position, own, claimed)).
+
+    A forest is whatever has n, roots, compression and own inputs: slots, or a bridge.
+    """
     n, roots = forest.n, forest.roots()
     number, block = against_roots(n, roots, data)
     if not number and not fits(forest.compression, n, roots, *block[:3]):

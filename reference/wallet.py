@@ -6,7 +6,7 @@ A call gives (number, output): 0, or the number of its refusal; the output is b'
 from collections import namedtuple
 
 from blocks import block_bytes, put
-from checks import against_roots, challenge
+from checks import challenge, judged
 from compressions import leaf
 from forest import (
     MOST_SLOTS,
@@ -120,13 +120,11 @@ class Wallet:
     positions = property(lambda self: [r.position for r in self.state.shelf])
     root_list = property(lambda self: [self.state.roots[p] for p in root_positions(self.count)])
 
+    def fitting(self, block):
+        return fits(self.compression, self.count, self.state.roots, *block[:3])
+
     def judge(self, data, card=False):
-        number, block = against_roots(self.count, self.state.roots, data, card)
-        if not number and not fits(self.compression, self.count, self.state.roots, *block[:3]):
-            number = 10
-        if not number and self.count + len(block.new) > self.most_slots:
-            number = 11
-        return number, block
+        return judged(self.count, self.state.roots, data, card, self.fitting, self.most_slots)
 
     def take(self, data):
         number, block = self.judge(data)
@@ -194,12 +192,7 @@ class Register:
         return live and list(block.hashes) == f.fresh(block.targets)
 
     def judge(self, data, card=False):
-        number, block = against_roots(self.count, self.forest.roots(), data, card)
-        if not number and not self.genuine(block):
-            number = 10
-        if not number and self.count + len(block.new) > self.most_slots:
-            number = 11
-        return number, block
+        return judged(self.count, self.forest.roots(), data, card, self.genuine, self.most_slots)
 
     def take(self, data):
         number, block = self.judge(data)
