@@ -1,7 +1,7 @@
-// The checks on a block that need no forest: the order of its targets, and whether it is a card.
-ghost use Rattle.std.specs.Prelude.{not, ◌&&◌, [], ◌∷◌, ◌==◌};
+// The checks on a block that need no forest, or its count alone: the order of its targets, whether it is a card, and the limit on slots.
+ghost use Rattle.std.specs.Prelude.{◌+◌, ◌≤◌, not, ◌&&◌, [], ◌∷◌, IfOk, ◌==◌, nat_lt};
 ghost use Rattle.utreexo.specs.Blocks.{ascending};
-ghost use Rattle.utreexo.specs.Checks.{cause};
+ghost use Rattle.utreexo.specs.Checks.{cause, most_slots};
 ghost use Rattle.block.specs.Compose.{numbers};
 ghost use Rattle.utreexo.specs.Outcomes.{Judged};
 
@@ -29,4 +29,15 @@ pub fn check_card(counts: Counts) -> Result<(), Refusal>
     } else {
         Err(Refusal::NotACard)
     }
+}
+
+// Whether a forest of `count` slots has room for so many coins more.
+pub fn check_limit(count: u32, coins: usize) -> Result<(), Refusal>
+    ensures judged { Judged (cause 11 (nat_lt most_slots (count + coins)) ∷ []) (λ _. Unit {0}) result }
+    ensures room { IfOk result (λ _. count + coins ≤ most_slots) }
+{
+    if coins > (u32::MAX - count) as usize {
+        return Err(Refusal::TooManySlots);
+    }
+    Ok(())
 }

@@ -6,6 +6,16 @@ ghost use Rattle.climb.specs.Held.{hashes_in};
 use utreexo::record::Record;
 use utreexo::types::Value;
 
+// The hash of this number; zero where there are fewer.
+pub fn hash_at(hashes: &[u8], index: usize) -> Value
+    ensures { result ≡ slice_index_or (hashes_in hashes.now) index no_value }
+{
+    let (chunks, _) = hashes.as_chunks::<32>();
+    chunks
+        .get(index)
+        .map_or(Value::default(), Value::from_bytes)
+}
+
 // Hashes as bytes, 32 each, and how many are used. That a call leaves the bytes as they were compares two states, so each call says it:
 // no invariant can.
 #[derive(Clone, Copy)]
@@ -22,10 +32,7 @@ impl Hashes<'_> {
         ensures used { self.new.used ≡ self.old.used + 1 }
         ensures bytes { self.new.bytes ≡ self.old.bytes }
     {
-        let (hashes, _) = self.bytes.as_chunks::<32>();
-        let hash = hashes
-            .get(self.used)
-            .map_or(Value::default(), Value::from_bytes);
+        let hash = hash_at(self.bytes, self.used);
         self.used += 1;
         hash
     }

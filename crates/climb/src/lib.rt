@@ -4,7 +4,7 @@
 mod above;
 pub mod after;
 pub mod climb;
-mod hashes;
+pub mod hashes;
 pub mod item;
 pub mod needed;
 mod no_values;

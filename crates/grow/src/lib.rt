@@ -6,27 +6,17 @@ mod joined;
 #[cfg(test)]
 mod tests;
 
-ghost use Rattle.std.specs.Prelude.{◌≡◌, ◌+◌, ◌≤◌, [], ◌∷◌, length, IfOk, IfErr, nat_lt};
+ghost use Rattle.std.specs.Prelude.{◌≡◌, ◌+◌, [], ◌∷◌, length, IfErr, nat_lt};
 ghost use Rattle.utreexo.specs.Checks.{cause, most_slots};
 ghost use Rattle.utreexo.specs.Outcomes.{Judged};
 ghost use Rattle.utreexo.specs.Wallet.{add_all};
 ghost use Rattle.shelf.specs.Views.{view_of};
 
+use block::checks::check_limit;
 use compression::Compression;
 use refusal::Refusal;
 use shelf::state::State;
 use utreexo::types::Coin;
-
-// Whether a forest of `count` slots has room for so many coins more.
-pub fn check_limit(count: u32, coins: usize) -> Result<(), Refusal>
-    ensures judged { Judged (cause 11 (nat_lt most_slots (count + coins)) ∷ []) (λ _. Unit {0}) result }
-    ensures room { IfOk result (λ _. count + coins ≤ most_slots) }
-{
-    if coins > (u32::MAX - count) as usize {
-        return Err(Refusal::TooManySlots);
-    }
-    Ok(())
-}
 
 // Adds the coins in their order, each in a slot of its own at the end.
 pub fn add_all<C: Compression>(state: &mut State, coins: &[Coin]) -> Result<(), Refusal>

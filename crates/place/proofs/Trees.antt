@@ -12,7 +12,7 @@ use Rattle.laws.proofs.Forest.{Top}
 use Rattle.laws.proofs.Places.{up_shr}
 use Rattle.laws.proofs.Positions.{bit_top, top_bit, tree_over, over_tree, over_low}
 use Rattle.laws.proofs.Laws.{inside_exactly}
-use Rattle.place.specs.Nodes.{inside, is_root, at_tree, below_root}
+use Rattle.place.specs.Nodes.{inside, is_root, below_root}
 use Rattle.place.proofs.Powers.{pow_next}
 
 -- Inside ------------------------------------------------------------------------------
@@ -69,17 +69,17 @@ tree_range n r o k small e = let v = tree_over n r o k e in (omega (arith, v.sum
 -- Roots ---------------------------------------------------------------------------------
 
 -- a root is the place of the tree of its row
-pub root_is : (n r o : ℕ) → n < 2 ^ 32 → at_tree n (at_node r o) ≡ is_root n (at_node r o)
-root_is n r o small = iff_bool (at_tree n (at_node r o)) (is_root n (at_node r o)) to (from (tree_of n (at_node r o)) refl)
+pub root_is : (n r o : ℕ) → n < 2 ^ 32 → (bit n r && eqb o (tree_place n r)) ≡ is_root n (at_node r o)
+root_is n r o small = iff_bool ((bit n r && eqb o (tree_place n r))) (is_root n (at_node r o)) to (from (tree_of n (at_node r o)) refl)
   where
-    to : at_tree n (at_node r o) ≡ true → is_root n (at_node r o) ≡ true
+    to : (bit n r && eqb o (tree_place n r)) ≡ true → is_root n (at_node r o) ≡ true
     to t =
         let (b, q) = and_parts (bit n r) (eqb o (tree_place n r)) t in
         let top = subst (Top n r) (sym (eqb-true o (tree_place n r) q)) (bit_top n r b) in
         let e = over_tree n r o r small (record { rows = 0; sum = omega arith; top = top }) in
         ap (λ x. elim x [ None ↦ false | Some k ↦ eqb k r ]) e ∙ eq-eqb r r refl
 
-    from : (x : Option ℕ) → tree_of n (at_node r o) ≡ x → elim x [ None ↦ false | Some k ↦ eqb k r ] ≡ true → at_tree n (at_node r o) ≡ true
+    from : (x : Option ℕ) → tree_of n (at_node r o) ≡ x → elim x [ None ↦ false | Some k ↦ eqb k r ] ≡ true → (bit n r && eqb o (tree_place n r)) ≡ true
     from None e t = absurd (true_false false t refl)
     from (Some k) e t =
         let v = tree_over n r o k e in
@@ -103,7 +103,3 @@ half_below o w = go (cases_lt o w) (cases_eq (w % 2) 1) (cases_eq o (w - 1))
 -- half the place against half the runs: a place below a root
 pub below_is : (n r o : ℕ) → n < 2 ^ 32 → ltb (o / 2) (n / 2 ^ r / 2) ≡ below_root n (at_node r o)
 below_is n r o small = half_below o (n / 2 ^ r) ∙ ap₂ (λ a b. a && not b) (sym (inside_exactly n r o small)) (root_is n r o small)
-
--- which is the same as that the place above it is in the forest
-pub above_is : (n r o : ℕ) → n < 2 ^ 32 → ltb (o / 2) (n / 2 ^ r / 2) ≡ inside n (at_node (r + 1) (o / 2))
-above_is n r o small = ap (λ x. ltb (o / 2) x) (shr-shr n r 1) ∙ sym (inside_exactly n (r + 1) (o / 2) small)

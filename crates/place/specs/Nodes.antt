@@ -1,7 +1,7 @@
 -- The code's nodes as nodes of the definitions; roots, parents and siblings of places, and positions of places.
-use Rattle.std.specs.Prelude.{ℕ, ◌+◌, ◌/◌, Bool, false, cond, not, ◌&&◌, is_some, Some, None, Option, ◌==◌, nat_eq}
+use Rattle.std.specs.Prelude.{ℕ, Bool, false, cond, not, ◌&&◌, is_some, Some, None, Option, nat_eq}
 use Rattle.utreexo.specs.declared.types.Position.{Position}
-use Rattle.utreexo.specs.Forest.{Node as ForestNode, at_node, bit, tree_place, tree_of, position, sibling}
+use Rattle.utreexo.specs.Forest.{Node as ForestNode, at_node, tree_place, tree_of, position, sibling}
 use Rattle.place.specs.declared.Node.{Node}
 
 -- What the code holds ---------------------------------------------------------------
@@ -27,16 +27,9 @@ inside n d = is_some (tree_of n d)
 abbrev pub is_root : ℕ → ForestNode → Bool
 is_root n d = elim (tree_of n d) [ None ↦ false | Some k ↦ nat_eq k d.row ]
 
--- the same by the count: bit `row` of it is one, and the place is that of the tree of the row
-abbrev pub at_tree : ℕ → ForestNode → Bool
-at_tree n d = bit n d.row && d.place == tree_place n d.row
-
--- d is in the forest and no root, so it has a parent and a sibling there
+-- d is in the forest and no root, so it has a sibling there
 abbrev pub below_root : ℕ → ForestNode → Bool
 below_root n d = inside n d && not (is_root n d)
-
-abbrev pub parent_of : ℕ → ForestNode → Option ForestNode
-parent_of n d = cond (below_root n d) (Some (at_node (d.row + 1) (d.place / 2))) None
 
 abbrev pub sibling_of : ℕ → ForestNode → Option ForestNode
 sibling_of n d = cond (below_root n d) (Some (at_node d.row (sibling d.place))) None

@@ -7,7 +7,8 @@ mod tests;
 
 ghost use Rattle.std.specs.Prelude.{◌≡◌, ◌+◌, ◌*◌, ◌/◌, ◌^◌, ◌<◌, ◌≤◌, true, is_some, IfSome, nat_lt};
 ghost use Rattle.utreexo.specs.Forest.{rows, at_node, bit, tree_place, tree_of, locate, sibling};
-ghost use Rattle.place.specs.Nodes.{node_of, node_in, number_of, inside, is_root, at_tree, below_root, parent_of, sibling_of, number_at, position_at, root_position};
+ghost use Rattle.utreexo.specs.Claims.{beneath};
+ghost use Rattle.place.specs.Nodes.{node_of, node_in, number_of, inside, below_root, sibling_of, number_at, position_at, root_position};
 
 use utreexo::types::{Position, Slot};
 
@@ -50,6 +51,13 @@ pub fn is_inside(count: u32, node: Node) -> bool
     ensures low { result ≡ true → node.row < 32 }
 {
     node.place < runs(count, node.row)
+}
+
+// Whether a place is at another or beneath it.
+pub fn is_beneath(lower: Node, upper: Node) -> bool
+    ensures { result ≡ beneath (node_of lower) (node_of upper) }
+{
+    lower.row <= upper.row && runs(lower.place, upper.row - lower.row) == upper.place
 }
 
 // The row and place of a position; None if it is not in the forest.
@@ -137,34 +145,12 @@ pub fn tree_place(count: u32, row: u8) -> u32
     runs(count, row).saturating_sub(1)
 }
 
-pub fn is_root(count: u32, node: Node) -> bool
-    ensures value { result ≡ is_root count (node_of node) }
-    ensures tree { result ≡ at_tree count (node_of node) }
-{
-    has_tree(count, node.row) && node.place == tree_place(count, node.row)
-}
-
-// Whether a place is in the forest and no root. It is exactly if the place above it is in the forest.
+// Whether a place is in the forest and no root, so that it has a sibling there.
 fn is_below_root(count: u32, node: Node) -> bool
     ensures value { result ≡ below_root count (node_of node) }
-    ensures above { result ≡ inside count (at_node (node.row + 1) (node.place / 2)) }
     ensures low { result ≡ true → node.row < 32 }
 {
     node.place / 2 < runs(count, node.row) / 2
-}
-
-// The parent of a place; None at a root or outside the forest.
-pub fn parent(count: u32, node: Node) -> Option<Node>
-    ensures value { node_in result ≡ parent_of count (node_of node) }
-    ensures above { is_some result ≡ inside count (at_node (node.row + 1) (node.place / 2)) }
-{
-    if !is_below_root(count, node) {
-        return None;
-    }
-    Some(Node {
-        row: node.row + 1,
-        place: node.place / 2,
-    })
 }
 
 // The other of the two places that have one parent; of any place, in the forest or not.

@@ -8,26 +8,16 @@ ghost use Rattle.targets.specs.Spends.{targets};
 ghost use Rattle.shelf.specs.Held.{held_of, shelf_of};
 ghost use Rattle.refresh.specs.Spent.{stays};
 
-use place::{Node, runs};
+use place::is_beneath;
 use shelf::record::Record;
 use shelf::table::Shelf;
 use targets::spend::Spend;
-
-// Whether a place is at another or beneath it.
-fn is_beneath(lower: Node, upper: Node) -> bool
-    ensures { result ≡ beneath (node_of lower) (node_of upper) }
-{
-    lower.row <= upper.row && runs(lower.place, upper.row - lower.row) == upper.place
-}
 
 // Whether a coin's position is covered, so at a target or above one, or is beneath a target.
 fn is_spent(held: &Record, spends: &[Spend]) -> bool
     ensures { result ≡ leaves_shelf (targets spends.now) (held_of held.now) }
 {
-    let node = Node {
-        row: held.row,
-        place: held.place,
-    };
+    let node = held.node();
     spends.iter().any(|spend| is_beneath(spend.node, node) || is_beneath(node, spend.node))
 }
 

@@ -23,12 +23,11 @@ pub(crate) fn place_all(count: u32, positions: &[Position], coins: &[Coin]) -> O
     Some(spends)
 }
 
-// Whether a target is above another: not at the same place, and over it.
+// Whether a target is above another.
 fn is_above(upper: Spend, lower: Spend) -> bool
     ensures { result ≡ strictly_above (target_of upper) (target_of lower) }
 {
-    let (above, below) = (upper.node, lower.node);
-    below.row < above.row && place::runs(below.place, above.row - below.row) == above.place
+    lower.node != upper.node && place::is_beneath(lower.node, upper.node)
 }
 
 fn is_above_any(upper: Spend, spends: &[Spend]) -> bool

@@ -4,9 +4,10 @@ ghost use Rattle.utreexo.specs.Outcomes.{Judged};
 ghost use Rattle.utreexo.specs.Wallet.{take_causes, view_after};
 ghost use Rattle.shelf.specs.Views.{view_of};
 
+use block::checks::check_limit;
 use climb::after::AfterValues;
 use compression::Compression;
-use grow::{add_all, check_limit};
+use grow::add_all;
 use proof::judge::judge;
 use proof::readable::Block;
 use refresh::spend;

@@ -1,6 +1,5 @@
 // A card's coin on the shelf.
-ghost use Rattle.std.specs.Prelude.{◌≡◌, ◌+◌, ◌/◌, ◌≤◌, ◌++◌, length, slice_index_or};
-ghost use Rattle.utreexo.specs.Claims.{no_value};
+ghost use Rattle.std.specs.Prelude.{◌≡◌, ◌+◌, ◌/◌, ◌≤◌, ◌++◌, length};
 ghost use Rattle.utreexo.specs.Blocks.{entries};
 ghost use Rattle.utreexo.specs.Outcomes.{Judged};
 ghost use Rattle.utreexo.specs.Wallet.{watch_causes, with_shelf, held_from};
@@ -12,6 +11,7 @@ ghost use Rattle.wallet.specs.Cards.{card_causes, held_with, IsOf};
 
 use block::checks::check_card;
 use climb::after::AfterValues;
+use climb::hashes::hash_at;
 use compression::Compression;
 use proof::judge::judge;
 use proof::readable::Block;
@@ -20,18 +20,6 @@ use shelf::record::Record;
 use shelf::state::State;
 use std::array;
 use targets::spend::Spend;
-use utreexo::record::Record as FromBytes;
-use utreexo::types::Value;
-
-// The hash of this number, of 32 bytes each; zero where there are fewer.
-fn hash_at(hashes: &[u8], index: usize) -> Value
-    ensures { result ≡ slice_index_or (hashes_in hashes.now) index no_value }
-{
-    let (chunks, _) = hashes.as_chunks::<32>();
-    chunks
-        .get(index)
-        .map_or(Value::default(), Value::from_bytes)
-}
 
 // The record of a target's coin, with these hashes for its path.
 fn record_of(target: Spend, hashes: &[u8]) -> Record

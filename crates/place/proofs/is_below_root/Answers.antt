@@ -1,6 +1,6 @@
 use Rattle.std.proofs.Common.{◌/◌, ltb, ap, ◌∙◌, arith}
 use Rattle.std.proofs.lemmas.Bool.{ltb-true}
-use Rattle.place.proofs.Trees.{below_is, above_is}
+use Rattle.place.proofs.Trees.{below_is}
 use Rattle.place.proofs.is_below_root.Goals as goal
 
 pub returns : goal.returns
@@ -12,6 +12,5 @@ returns c =
     let e = ap (λ x. ltb (o / 2) (x / 2)) c.runs.ensures.value in
     record {
       value = e ∙ below_is n r o (omega arith);
-      above = e ∙ above_is n r o (omega arith);
       low = λ t. c.runs.ensures.low (let h = ltb-true (o / 2) (w / 2) t in omega arith);
     }
