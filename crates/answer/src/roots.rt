@@ -29,9 +29,7 @@ impl fmt::Display for Roots<'_> {
             return write!(f, "-");
         }
         let mut separator = "";
-        // Trees go by row, so a range is the plainest form.
-        for step in 0..32u8 {
-            let row = 31 - step;
+        for row in (0..32u8).rev() {
             if place::has_tree(self.count, row) {
                 write_root(f, separator, &self.roots[row as usize])?;
                 separator = ",";

@@ -5,11 +5,10 @@
 mod hashes;
 mod work;
 
-use anyhow::anyhow;
+use anyhow::{Error, anyhow};
 use compression::hash::Blake2s;
 use full_keeper::Full;
 use hashes::Hashes;
-use refusal::Refusal;
 use std::time::{Duration, Instant};
 use std::{env, mem};
 use utreexo::types::{Coin, Value};
@@ -17,15 +16,11 @@ use utreexo::types::{Coin, Value};
 // Of so many rounds the shortest time counts.
 const ROUNDS: u8 = 5;
 
-fn error(refusal: Refusal) -> anyhow::Error {
-    anyhow!("{refusal}")
-}
-
 // The hashes of appending and of blanking so many slots.
 fn count(rt: &HostRuntime, slots: u32) -> anyhow::Result<(Hashes, Hashes)> {
     let mut keeper = Full::<Blake2s>::new(rt.alloc(), slots)?;
-    let appends = work::count_fill(&mut keeper, slots).map_err(error)?;
-    let blanks = work::count_empty(&mut keeper, slots).map_err(error)?;
+    let appends = work::count_fill(&mut keeper, slots).map_err(Error::msg)?;
+    let blanks = work::count_empty(&mut keeper, slots).map_err(Error::msg)?;
     Ok((appends, blanks))
 }
 
@@ -72,10 +67,10 @@ fn measure(
 ) -> anyhow::Result<(Times, Value)> {
     let mut keeper = Full::<Blake2s>::new(rt.alloc(), slots)?;
     let start = Instant::now(rt)?;
-    work::fill(&mut keeper, slots).map_err(error)?;
+    work::fill(&mut keeper, slots).map_err(Error::msg)?;
     let appends = start.elapsed(rt)?;
     let start = Instant::now(rt)?;
-    work::empty(&mut keeper, slots).map_err(error)?;
+    work::empty(&mut keeper, slots).map_err(Error::msg)?;
     let blanks = start.elapsed(rt)?;
     let start = Instant::now(rt)?;
     let value = work::hash(value, hashes.0);
@@ -118,13 +113,7 @@ fn print_memory(rt: &HostRuntime, slots: u32) -> anyhow::Result<()> {
 }
 
 fn time(rt: &HostRuntime, slots: u32, hashes: (Hashes, Hashes)) -> anyhow::Result<()> {
-    let zero = Value {
-        w0: 0,
-        w1: 0,
-        w2: 0,
-        w3: 0,
-    };
-    let (mut times, mut value) = measure(rt, slots, hashes, zero)?;
+    let (mut times, mut value) = measure(rt, slots, hashes, Value::default())?;
     for _ in 1..ROUNDS {
         let (other, next) = measure(rt, slots, hashes, value)?;
         times = times.least(other);

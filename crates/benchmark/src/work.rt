@@ -69,10 +69,10 @@ pub(crate) fn count_empty<K: Keeper<Blake2s>>(
     Ok(hashes)
 }
 
-// So many hashes, each of what the one before gave.
-pub(crate) fn hash(start: Value, hashes: Hashes) -> Value {
+// So many leaf images, each of what the one before gave.
+fn hash_leaves(start: Value, leaves: u64) -> Value {
     let mut value = start;
-    for _ in 0..hashes.leaves {
+    for _ in 0..leaves {
         value = Blake2s::leaf(Coin {
             w0: value.w0,
             w1: value.w1,
@@ -80,8 +80,19 @@ pub(crate) fn hash(start: Value, hashes: Hashes) -> Value {
             w3: value.w3,
         });
     }
-    for _ in 0..hashes.pairs {
+    value
+}
+
+// So many pair images, each of what the one before gave.
+fn hash_pairs(start: Value, pairs: u64) -> Value {
+    let mut value = start;
+    for _ in 0..pairs {
         value = Blake2s::pair(value, value);
     }
     value
+}
+
+// So many leaf images, then so many pair images.
+pub(crate) fn hash(start: Value, hashes: Hashes) -> Value {
+    hash_pairs(hash_leaves(start, hashes.leaves), hashes.pairs)
 }

@@ -14,6 +14,8 @@ pub(crate) enum Argument {
 
 fn read_one(heap: Global, text: &str) -> Result<Argument, Fault> {
     match text.strip_prefix("#") {
+        // A plus sign, which `parse` takes, is no digit.
+        Some(decimal) if decimal.starts_with("+") => Err(Fault::Unreadable),
         Some(decimal) => {
             let number = decimal.parse().map_err(|_| Fault::Unreadable)?;
             Ok(Argument::Number(number))

@@ -1,9 +1,9 @@
 // Script calls on bridges.
 use crate::arguments::{Argument, buffer, coin, no_arguments, only_bytes, records};
+use crate::choice::Choice;
 use crate::fault::*;
 use crate::hashing::Hashing;
 use crate::keepers;
-use crate::keepers::AnyKeeper;
 use answer::{Answer, Output, Shown};
 use bridge::Bridge;
 use challenge::verdict::Verdict;
@@ -19,13 +19,12 @@ use std::str::FromStr;
 use utreexo::types::{Coin, Position};
 
 // A bridge over a keeper of either kind, under either compression.
-#[derive(Drop)]
-pub(crate) enum AnyBridge {
-    BareBlake2s(Bridge<Blake2s, Bare<Blake2s>>),
-    FullBlake2s(Bridge<Blake2s, Full<Blake2s>>),
-    BareTally(Bridge<Tally, Bare<Tally>>),
-    FullTally(Bridge<Tally, Full<Tally>>),
-}
+pub(crate) type AnyBridge = Choice<
+    Bridge<Blake2s, Bare<Blake2s>>,
+    Bridge<Blake2s, Full<Blake2s>>,
+    Bridge<Tally, Bare<Tally>>,
+    Bridge<Tally, Full<Tally>>,
+>;
 
 #[derive(Clone, Copy)]
 pub(crate) enum Name {
@@ -58,14 +57,14 @@ impl FromStr for Name {
 // bridge.new #capacity,#kind
 pub(crate) fn new(
     heap: Global,
-    hashing: Hashing,
+    hashing: Option<Hashing>,
     arguments: &[Argument],
 ) -> Result<AnyBridge, Fault> {
     match keepers::new(heap, hashing, arguments)? {
-        AnyKeeper::BareBlake2s(keeper) => Ok(AnyBridge::BareBlake2s(Bridge::new(keeper))),
-        AnyKeeper::FullBlake2s(keeper) => Ok(AnyBridge::FullBlake2s(Bridge::new(keeper))),
-        AnyKeeper::BareTally(keeper) => Ok(AnyBridge::BareTally(Bridge::new(keeper))),
-        AnyKeeper::FullTally(keeper) => Ok(AnyBridge::FullTally(Bridge::new(keeper))),
+        Choice::BareBlake2s(keeper) => Ok(Choice::BareBlake2s(Bridge::new(keeper))),
+        Choice::FullBlake2s(keeper) => Ok(Choice::FullBlake2s(Bridge::new(keeper))),
+        Choice::BareTally(keeper) => Ok(Choice::BareTally(Bridge::new(keeper))),
+        Choice::FullTally(keeper) => Ok(Choice::FullTally(Bridge::new(keeper))),
     }
 }
 
@@ -180,10 +179,10 @@ fn state<C: Compression, K: Keeper<C>>(bridge: &Bridge<C, K>) -> Shown {
 // What is shown of a bridge.
 pub(crate) fn shown(bridge: &AnyBridge) -> Shown {
     match bridge {
-        AnyBridge::BareBlake2s(bridge) => state(bridge),
-        AnyBridge::FullBlake2s(bridge) => state(bridge),
-        AnyBridge::BareTally(bridge) => state(bridge),
-        AnyBridge::FullTally(bridge) => state(bridge),
+        Choice::BareBlake2s(bridge) => state(bridge),
+        Choice::FullBlake2s(bridge) => state(bridge),
+        Choice::BareTally(bridge) => state(bridge),
+        Choice::FullTally(bridge) => state(bridge),
     }
 }
 
@@ -196,10 +195,10 @@ pub(crate) fn ask(
     arguments: &[Argument],
 ) -> Result<Answer, Fault> {
     let (refusal, output) = match bridge {
-        AnyBridge::BareBlake2s(bridge) => perform(heap, bridge, name, arguments)?,
-        AnyBridge::FullBlake2s(bridge) => perform(heap, bridge, name, arguments)?,
-        AnyBridge::BareTally(bridge) => perform(heap, bridge, name, arguments)?,
-        AnyBridge::FullTally(bridge) => perform(heap, bridge, name, arguments)?,
+        Choice::BareBlake2s(bridge) => perform(heap, bridge, name, arguments)?,
+        Choice::FullBlake2s(bridge) => perform(heap, bridge, name, arguments)?,
+        Choice::BareTally(bridge) => perform(heap, bridge, name, arguments)?,
+        Choice::FullTally(bridge) => perform(heap, bridge, name, arguments)?,
     };
     Ok(Answer {
         refusal,

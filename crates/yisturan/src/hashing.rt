@@ -1,24 +1,18 @@
 // The compression that a line names.
 use crate::fault::*;
-use std::str::FromStr;
 
-// `Unused` where it plays no part.
 #[derive(Clone, Copy)]
 pub(crate) enum Hashing {
-    Unused,
     Blake2s,
     Tally,
 }
 
-impl FromStr for Hashing {
-    type Err = Fault;
-
-    fn from_str(text: &str) -> Result<Hashing, Fault> {
-        match text {
-            "0" => Ok(Hashing::Unused),
-            "1" => Ok(Hashing::Blake2s),
-            "2" => Ok(Hashing::Tally),
-            _ => Err(Fault::Compression),
-        }
+// The compression of a number; None for 0, where it plays no part.
+pub(crate) fn read(text: &str) -> Result<Option<Hashing>, Fault> {
+    match text {
+        "0" => Ok(None),
+        "1" => Ok(Some(Hashing::Blake2s)),
+        "2" => Ok(Some(Hashing::Tally)),
+        _ => Err(Fault::Compression),
     }
 }

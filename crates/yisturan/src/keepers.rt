@@ -1,5 +1,6 @@
 // Script calls on keepers.
 use crate::arguments::{Argument, coin, count, only_bytes, only_number};
+use crate::choice::Choice;
 use crate::fault::*;
 use crate::hashing::Hashing;
 use answer::{Answer, Output, Shown};
@@ -16,13 +17,7 @@ use std::str::FromStr;
 use utreexo::types::{Coin, Slot};
 
 // A keeper of either kind, with values under either compression.
-#[derive(Drop)]
-pub(crate) enum AnyKeeper {
-    BareBlake2s(Bare<Blake2s>),
-    FullBlake2s(Full<Blake2s>),
-    BareTally(Bare<Tally>),
-    FullTally(Full<Tally>),
-}
+pub(crate) type AnyKeeper = Choice<Bare<Blake2s>, Full<Blake2s>, Bare<Tally>, Full<Tally>>;
 
 #[derive(Clone, Copy)]
 pub(crate) enum Name {
@@ -84,16 +79,14 @@ fn read(name: Name, arguments: &[Argument]) -> Result<Call, Fault> {
 
 // The slot of a number; a number of more than 32 bits is past any count.
 pub(crate) fn slot(number: u64) -> Result<Slot, Refusal> {
-    u32::try_from(number)
-        .map(|number| Slot { number })
-        .map_err(|_| Refusal::NotFound)
+    let number = u32::try_from(number).map_err(|_| Refusal::NotFound)?;
+    Ok(Slot { number })
 }
 
 // The run of a row and place; a row of more than 8 bits is past any count.
 fn run(row: u64, place: u64) -> Result<Run, Refusal> {
-    u8::try_from(row)
-        .map(|row| Run { row, place })
-        .map_err(|_| Refusal::NotFound)
+    let row = u8::try_from(row).map_err(|_| Refusal::NotFound)?;
+    Ok(Run { row, place })
 }
 
 fn perform<C: Compression, K: Keeper<C>>(keeper: &mut K, call: Call) -> Result<Output, Refusal> {
@@ -111,7 +104,7 @@ fn perform<C: Compression, K: Keeper<C>>(keeper: &mut K, call: Call) -> Result<O
 // keeper.new #capacity,#kind
 pub(crate) fn new(
     heap: Global,
-    hashing: Hashing,
+    hashing: Option<Hashing>,
     arguments: &[Argument],
 ) -> Result<AnyKeeper, Fault> {
     let [Argument::Number(capacity), Argument::Number(kind)] = arguments else {
@@ -119,11 +112,11 @@ pub(crate) fn new(
     };
     let capacity = count(*capacity)?;
     match (hashing, kind) {
-        (Hashing::Unused, 0 | 1) => Err(Fault::NoCompression),
-        (Hashing::Blake2s, 0) => Ok(AnyKeeper::BareBlake2s(Bare::new(heap, capacity)?)),
-        (Hashing::Blake2s, 1) => Ok(AnyKeeper::FullBlake2s(Full::new(heap, capacity)?)),
-        (Hashing::Tally, 0) => Ok(AnyKeeper::BareTally(Bare::new(heap, capacity)?)),
-        (Hashing::Tally, 1) => Ok(AnyKeeper::FullTally(Full::new(heap, capacity)?)),
+        (None, 0 | 1) => Err(Fault::NoCompression),
+        (Some(Hashing::Blake2s), 0) => Ok(Choice::BareBlake2s(Bare::new(heap, capacity)?)),
+        (Some(Hashing::Blake2s), 1) => Ok(Choice::FullBlake2s(Full::new(heap, capacity)?)),
+        (Some(Hashing::Tally), 0) => Ok(Choice::BareTally(Bare::new(heap, capacity)?)),
+        (Some(Hashing::Tally), 1) => Ok(Choice::FullTally(Full::new(heap, capacity)?)),
         _ => Err(Fault::Mismatched),
     }
 }
@@ -131,10 +124,10 @@ pub(crate) fn new(
 // What is shown of a keeper.
 pub(crate) fn shown(keeper: &AnyKeeper) -> Shown {
     let count = match keeper {
-        AnyKeeper::BareBlake2s(keeper) => keeper.count(),
-        AnyKeeper::FullBlake2s(keeper) => keeper.count(),
-        AnyKeeper::BareTally(keeper) => keeper.count(),
-        AnyKeeper::FullTally(keeper) => keeper.count(),
+        Choice::BareBlake2s(keeper) => keeper.count(),
+        Choice::FullBlake2s(keeper) => keeper.count(),
+        Choice::BareTally(keeper) => keeper.count(),
+        Choice::FullTally(keeper) => keeper.count(),
     };
     Shown::Keeper { count }
 }
@@ -148,10 +141,10 @@ pub(crate) fn ask(
 ) -> Result<Answer, Fault> {
     let call = read(name, arguments)?;
     let outcome = match keeper {
-        AnyKeeper::BareBlake2s(keeper) => perform::<Blake2s, _>(keeper, call),
-        AnyKeeper::FullBlake2s(keeper) => perform::<Blake2s, _>(keeper, call),
-        AnyKeeper::BareTally(keeper) => perform::<Tally, _>(keeper, call),
-        AnyKeeper::FullTally(keeper) => perform::<Tally, _>(keeper, call),
+        Choice::BareBlake2s(keeper) => perform::<Blake2s, _>(keeper, call),
+        Choice::FullBlake2s(keeper) => perform::<Blake2s, _>(keeper, call),
+        Choice::BareTally(keeper) => perform::<Tally, _>(keeper, call),
+        Choice::FullTally(keeper) => perform::<Tally, _>(keeper, call),
     };
     Ok(Answer::new(shown(keeper), outcome))
 }

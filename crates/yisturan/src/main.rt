@@ -4,7 +4,7 @@
 mod arguments;
 mod blocks;
 mod bridges;
-mod demonstration;
+mod choice;
 mod fault;
 mod hashing;
 mod hex;
@@ -14,7 +14,6 @@ mod places;
 mod request;
 mod script;
 mod session;
-mod sides;
 mod wallets;
 
 use anyhow::anyhow;

@@ -7,10 +7,11 @@ use std::alloc::{AllocError, Global};
 use std::collections::BTreeSet;
 use utreexo::types::Position;
 
-// The place is that of the target, or above it.
-fn covers(node: Node, target: Node) -> bool {
-    target.row <= node.row
-        && target.place.unbounded_shr((node.row - target.row) as u32) == node.place
+// Whether the place of a target is above that of another.
+fn is_above_another(nodes: &[Node], node: Node) -> bool {
+    nodes
+        .iter()
+        .any(|other| *other != node && place::is_beneath(*other, node))
 }
 
 fn check(targets: &[Position], nodes: &[Node]) -> Result<(), Refusal> {
@@ -18,10 +19,7 @@ fn check(targets: &[Position], nodes: &[Node]) -> Result<(), Refusal> {
     if nodes.len() < targets.len() {
         return Err(Refusal::TargetOutsideForest);
     }
-    if nodes.iter().any(|node| nodes
-        .iter()
-        .any(|other| other != node && covers(*node, *other)))
-    {
+    if nodes.iter().any(|node| is_above_another(nodes, *node)) {
         return Err(Refusal::TargetAboveAnother);
     }
     Ok(())
@@ -31,23 +29,37 @@ fn check(targets: &[Position], nodes: &[Node]) -> Result<(), Refusal> {
 fn needed_at(count: u32, nodes: &[Node], node: Node, rows: u8) -> Option<Position> {
     let above = Node {
         row: node.row.checked_add(rows)?,
-        place: node.place.unbounded_shr(rows as u32),
+        place: place::runs(node.place, rows),
     };
     let sibling = place::sibling(count, above)?;
-    if nodes.iter().any(|target| covers(sibling, *target)) {
+    if nodes
+        .iter()
+        .any(|target| place::is_beneath(*target, sibling))
+    {
         return None;
     }
     place::position_of(count, sibling)
 }
 
+// Adds what one target needs, going up from it.
+fn add_needed(
+    numbers: &mut BTreeSet<u64>,
+    count: u32,
+    nodes: &[Node],
+    node: Node,
+) -> Result<(), AllocError> {
+    for rows in 0..32 {
+        if let Some(position) = needed_at(count, nodes, node, rows) {
+            numbers.insert(position.number)?;
+        }
+    }
+    Ok(())
+}
+
 fn collect(heap: Global, count: u32, nodes: &[Node]) -> Result<Vec<Position>, AllocError> {
     let mut numbers = BTreeSet::new(heap);
     for node in nodes {
-        for rows in 0..32 {
-            if let Some(position) = needed_at(count, nodes, *node, rows) {
-                numbers.insert(position.number)?;
-            }
-        }
+        add_needed(&mut numbers, count, nodes, *node)?;
     }
     numbers
         .iter()

@@ -2,7 +2,7 @@
 use crate::arguments::Argument;
 use crate::fault::*;
 use crate::hashing::Hashing;
-use crate::{arguments, bridges, keepers, wallets};
+use crate::{arguments, bridges, hashing, keepers, wallets};
 use std::alloc::Global;
 use std::str::FromStr;
 
@@ -52,7 +52,7 @@ impl FromStr for Call {
 // A line, taken apart.
 #[derive(Drop)]
 pub(crate) struct Request {
-    pub(crate) hashing: Hashing,
+    pub(crate) hashing: Option<Hashing>,
     pub(crate) call: Call,
     pub(crate) arguments: Vec<Argument>,
 }
@@ -67,7 +67,7 @@ pub(crate) fn read(heap: Global, line: &str) -> Result<Request, Fault> {
     ) else {
         return Err(Fault::Fields);
     };
-    let hashing = compression.parse::<Hashing>()?;
+    let hashing = hashing::read(compression)?;
     let call = name.parse::<Call>()?;
     let arguments = arguments::read(heap, text)?;
     Ok(Request {

@@ -5,16 +5,19 @@ use crate::fault::*;
 use crate::hashing::Hashing;
 use crate::keepers::AnyKeeper;
 use crate::request::{Call, Request};
-use crate::wallets::AnyWallet;
 use crate::{blocks, bridges, keepers, places, request, wallets};
 use answer::{Answer, Output, Shown};
+use compression::Compression;
 use std::alloc::Global;
+use wallet::Wallet;
 
-// The keeper and the bridge that calls of one line leave for those of the next. A wallet has its marks lent, so it stands beside them.
+// What calls of one line leave for those of the next: the keeper, the bridge, and whether a line has made a wallet. The wallet itself has
+// its marks lent, so it stands beside them.
 #[derive(Drop)]
 pub(crate) struct Session {
-    pub(crate) keeper: Option<AnyKeeper>,
-    pub(crate) bridge: Option<AnyBridge>,
+    keeper: Option<AnyKeeper>,
+    bridge: Option<AnyBridge>,
+    has_wallet: bool,
 }
 
 // The wallet that a line asks for.
@@ -38,12 +41,10 @@ fn digest(arguments: &[Argument]) -> Result<Answer, Fault> {
 }
 
 // new #places
-fn new_wallet(hashing: Hashing, arguments: &[Argument]) -> Result<NewWallet, Fault> {
+fn new_wallet(hashing: Option<Hashing>, arguments: &[Argument]) -> Result<NewWallet, Fault> {
     let places = only_number(arguments)?;
-    match hashing {
-        Hashing::Unused => Err(Fault::NoCompression),
-        _ => Ok(NewWallet { hashing, places }),
-    }
+    let hashing = hashing.ok_or(Fault::NoCompression)?;
+    Ok(NewWallet { hashing, places })
 }
 
 impl Session {
@@ -51,13 +52,14 @@ impl Session {
         Session {
             keeper: None,
             bridge: None,
+            has_wallet: false,
         }
     }
 
     fn new_keeper(
         &mut self,
         heap: Global,
-        hashing: Hashing,
+        hashing: Option<Hashing>,
         arguments: &[Argument],
     ) -> Result<Answer, Fault> {
         let keeper = keepers::new(heap, hashing, arguments)?;
@@ -69,7 +71,7 @@ impl Session {
     fn new_bridge(
         &mut self,
         heap: Global,
-        hashing: Hashing,
+        hashing: Option<Hashing>,
         arguments: &[Argument],
     ) -> Result<Answer, Fault> {
         let bridge = bridges::new(heap, hashing, arguments)?;
@@ -94,10 +96,10 @@ impl Session {
     }
 
     // Makes the call that a line names. A new call is a name, a case of `Call`, and a function that takes its arguments apart.
-    pub(crate) fn reply(
+    pub(crate) fn reply<C: Compression>(
         &mut self,
         heap: Global,
-        wallet: &mut AnyWallet,
+        wallet: &mut Wallet<C>,
         line: &str,
     ) -> Result<Reply, Fault> {
         let Request {
@@ -118,7 +120,12 @@ impl Session {
             Call::Keeper(name) => self.ask_keeper(name, arguments)?,
             Call::NewBridge => self.new_bridge(heap, hashing, arguments)?,
             Call::Bridge(name) => self.ask_bridge(heap, name, arguments)?,
-            Call::NewWallet => return Ok(Reply::NewWallet(new_wallet(hashing, arguments)?)),
+            Call::NewWallet => {
+                let new = new_wallet(hashing, arguments)?;
+                self.has_wallet = true;
+                return Ok(Reply::NewWallet(new));
+            }
+            Call::Wallet(_) if !self.has_wallet => return Err(Fault::NoWallet),
             Call::Wallet(name) => wallets::ask(heap, wallet, name, arguments)?,
         };
         Ok(Reply::Answer(answer))

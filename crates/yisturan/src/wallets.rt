@@ -1,25 +1,13 @@
-// Script calls on wallets.
+// Script calls on a wallet.
 use crate::arguments::{Argument, buffer, no_arguments, only_bytes, only_number};
 use crate::fault::*;
-use crate::hashing::Hashing;
 use answer::{Answer, Output, Shown};
 use compression::Compression;
-use compression::hash::Blake2s;
-use compression::tally::Tally;
 use refusal::Refusal;
-use shelf::state::State;
 use std::alloc::{AllocError, Global};
 use std::str::FromStr;
 use utreexo::types::Position;
 use wallet::Wallet;
-
-// The wallet of a script: none before the first line that makes one, and then one under either compression.
-#[derive(Drop)]
-pub(crate) enum AnyWallet<'a> {
-    Absent,
-    Blake2s(Wallet<'a, Blake2s>),
-    Tally(Wallet<'a, Tally>),
-}
 
 #[derive(Clone, Copy)]
 pub(crate) enum Name {
@@ -44,15 +32,6 @@ impl FromStr for Name {
             "take_back" => Ok(Name::TakeBack),
             _ => Err(Fault::Call),
         }
-    }
-}
-
-// An empty wallet over these marks.
-pub(crate) fn new(hashing: Hashing, marks: &mut [State]) -> AnyWallet<'_> {
-    match hashing {
-        Hashing::Unused => AnyWallet::Absent,
-        Hashing::Blake2s => AnyWallet::Blake2s(Wallet::new(marks)),
-        Hashing::Tally => AnyWallet::Tally(Wallet::new(marks)),
     }
 }
 
@@ -93,7 +72,8 @@ fn perform<C: Compression>(
     Ok((outcome.err(), Output::Nothing))
 }
 
-fn state<C: Compression>(heap: Global, wallet: &Wallet<C>) -> Result<Shown, AllocError> {
+// What is shown of a wallet.
+pub(crate) fn shown<C: Compression>(heap: Global, wallet: &Wallet<C>) -> Result<Shown, AllocError> {
     let shelf = (0..wallet.shelf_len())
         .filter_map(|index| wallet.position(index))
         .collect(heap)?;
@@ -104,27 +84,14 @@ fn state<C: Compression>(heap: Global, wallet: &Wallet<C>) -> Result<Shown, Allo
     })
 }
 
-// What is shown of a wallet.
-pub(crate) fn shown(heap: Global, wallet: &AnyWallet) -> Result<Shown, AllocError> {
-    match wallet {
-        AnyWallet::Absent => Ok(Shown::Nothing),
-        AnyWallet::Blake2s(wallet) => state(heap, wallet),
-        AnyWallet::Tally(wallet) => state(heap, wallet),
-    }
-}
-
 // take block, check block, watch block, let_go #position, show #position,#length and take_back.
-pub(crate) fn ask(
+pub(crate) fn ask<C: Compression>(
     heap: Global,
-    wallet: &mut AnyWallet,
+    wallet: &mut Wallet<C>,
     name: Name,
     arguments: &[Argument],
 ) -> Result<Answer, Fault> {
-    let (refusal, output) = match wallet {
-        AnyWallet::Absent => return Err(Fault::NoWallet),
-        AnyWallet::Blake2s(wallet) => perform(heap, wallet, name, arguments)?,
-        AnyWallet::Tally(wallet) => perform(heap, wallet, name, arguments)?,
-    };
+    let (refusal, output) = perform(heap, wallet, name, arguments)?;
     Ok(Answer {
         refusal,
         shown: shown(heap, wallet)?,

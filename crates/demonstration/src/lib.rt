@@ -1,7 +1,11 @@
 // One task from beginning to end: a wallet follows a bridge and proves a coin of its own; then a forged block, and the evidence.
-use crate::sides::Sides;
+#![tactic(auto)]
+
+mod beside;
+
+use beside::{print_card, print_state, take, take_back, write_block, write_card};
 use answer::hex::Hex;
-use anyhow::anyhow;
+use anyhow::Error;
 use block::compose::compose;
 use bridge::Bridge;
 use challenge::verdict::Verdict;
@@ -9,12 +13,14 @@ use compression::Compression;
 use compression::hash::Blake2s;
 use compression::tally::Tally;
 use full_keeper::Full;
-use keeper::Keeper;
 use refusal::Refusal;
 use shelf::state::State;
+use std::io;
 use utreexo::record::Record;
 use utreexo::types::{Coin, Input, Position, Slot, Value};
 use wallet::Wallet;
+
+type FullBridge<C> = Bridge<C, Full<C>>;
 
 // The coin that the wallet watches is in slot 2.
 const WATCHED: Slot = Slot { number: 2 };
@@ -31,100 +37,107 @@ fn position(number: u64) -> Position {
     Position { number }
 }
 
-// A bridge over an empty keeper, and an empty wallet.
-fn begin<C: Compression, K: Keeper<C>>(keeper: K, marks: &mut [State]) -> Sides<'_, C, K> {
-    Sides {
-        bridge: Bridge::new(keeper),
-        wallet: Wallet::new(marks),
-    }
-}
-
 // The first two blocks: the wallet gets the coin's card, and stays right when the coin's neighbour is spent.
-fn follow(rt: &HostRuntime, sides: &mut Sides<'_, Blake2s, Full<Blake2s>>) -> anyhow::Result<()> {
+fn follow(
+    rt: &HostRuntime,
+    bridge: &mut FullBridge<Blake2s>,
+    wallet: &mut Wallet<Blake2s>,
+) -> anyhow::Result<()> {
     println!(rt; "Block 1 adds the coins 1 to 4.")?;
-    let block = sides.write(rt.alloc(), &[], &[coin(1), coin(2), coin(3), coin(4)])?;
-    sides.take(block.as_slice())?;
-    sides.print_state(rt)?;
+    let block = write_block(
+        rt.alloc(),
+        bridge,
+        &[],
+        &[coin(1), coin(2), coin(3), coin(4)],
+    )?;
+    take(bridge, wallet, block.as_slice())?;
+    print_state(rt, bridge, wallet)?;
     println!(rt; "The bridge writes the card of coin 3, and the wallet puts it on its shelf.")?;
-    let card = sides.card(rt.alloc(), WATCHED)?;
-    sides.watch(card.as_slice())?;
-    sides.print_card(rt, WATCHED)?;
+    let card = write_card(rt.alloc(), bridge, WATCHED)?;
+    wallet.watch(card.as_slice()).map_err(Error::msg)?;
+    print_card(rt, bridge, wallet, WATCHED)?;
     println!(rt;
         "Block 2 spends coin 4, whose place was beside coin 3, and adds the coins 5 to 8."
     )?;
-    let block = sides.write(
+    let block = write_block(
         rt.alloc(),
+        bridge,
         &[position(3)],
         &[coin(5), coin(6), coin(7), coin(8)],
     )?;
-    sides.take(block.as_slice())?;
-    sides.print_state(rt)?;
-    sides.print_card(rt, WATCHED)
+    take(bridge, wallet, block.as_slice())?;
+    print_state(rt, bridge, wallet)?;
+    print_card(rt, bridge, wallet, WATCHED)
 }
 
 // What came of giving a block to the wallet or the bridge.
-fn print_answer(rt: &HostRuntime, whose: &str, answer: Result<(), Refusal>) -> anyhow::Result<()> {
+fn print_answer(rt: &HostRuntime, whose: &str, answer: Result<(), Refusal>) -> io::Result<()> {
     match answer {
-        Ok(()) => println!(rt; "  The {whose} takes it.")?,
-        Err(refusal) => println!(rt; "  The {whose} does not take it: {refusal}.")?,
+        Ok(()) => println!(rt; "  The {whose} takes it."),
+        Err(refusal) => println!(rt; "  The {whose} does not take it: {refusal}."),
     }
-    Ok(())
 }
 
 // A third block, damaged first, then right, then taken back.
-fn refuse(rt: &HostRuntime, sides: &mut Sides<'_, Blake2s, Full<Blake2s>>) -> anyhow::Result<()> {
+fn refuse(
+    rt: &HostRuntime,
+    bridge: &mut FullBridge<Blake2s>,
+    wallet: &mut Wallet<Blake2s>,
+) -> anyhow::Result<()> {
     println!(rt;
         "Block 3 spends coin 1 and adds coin 9. First comes a copy in which one bit of the spent coin is turned."
     )?;
-    let block = sides.write(rt.alloc(), &[position(0)], &[coin(9)])?;
+    let block = write_block(rt.alloc(), bridge, &[position(0)], &[coin(9)])?;
     let mut damaged = block.clone()?;
     if let Some(byte) = damaged.get_mut(COIN_AT) {
         *byte ^= 1;
     }
-    print_answer(rt, "wallet", sides.wallet.take(damaged.as_slice()))?;
-    print_answer(rt, "bridge", sides.bridge.take(damaged.as_slice()))?;
+    print_answer(rt, "wallet", wallet.take(damaged.as_slice()))?;
+    print_answer(rt, "bridge", bridge.take(damaged.as_slice()))?;
     println!(rt; "Then comes the block itself.")?;
-    sides.take(block.as_slice())?;
-    sides.print_state(rt)?;
-    sides.print_card(rt, WATCHED)?;
+    take(bridge, wallet, block.as_slice())?;
+    print_state(rt, bridge, wallet)?;
+    print_card(rt, bridge, wallet, WATCHED)?;
     println!(rt; "Both take block 3 back.")?;
-    sides.take_back()?;
-    sides.print_state(rt)?;
-    sides.print_card(rt, WATCHED)
+    take_back(bridge, wallet)?;
+    print_state(rt, bridge, wallet)?;
+    print_card(rt, bridge, wallet, WATCHED)
+}
+
+// 32 bytes on a line of their own.
+fn print_record<T: Record<32>>(rt: &HostRuntime, record: T) -> io::Result<()> {
+    println!(rt; "    {}", Hex(&record.to_bytes()))
+}
+
+// The image of an input under Tally.
+fn image(input: Input) -> Value {
+    match input {
+        Input::Leaf(coin) => Tally::leaf(coin),
+        Input::Pair(left, right) => Tally::pair(left, right),
+    }
 }
 
 // An input, and its image under Tally.
-fn print_input(rt: &HostRuntime, whose: &str, input: Input) -> anyhow::Result<()> {
-    let image = match input {
+fn print_input(rt: &HostRuntime, whose: &str, input: Input) -> io::Result<()> {
+    match input {
         Input::Leaf(coin) => {
-            let coin_bytes = coin.to_bytes();
             println!(rt; "  The {whose} input is the coin")?;
-            println!(rt; "    {}", Hex(&coin_bytes))?;
-            Tally::leaf(coin)
+            print_record(rt, coin)?;
         }
         Input::Pair(left, right) => {
-            let left_bytes = left.to_bytes();
-            let right_bytes = right.to_bytes();
             println!(rt; "  The {whose} input is the pair")?;
-            println!(rt; "    {}", Hex(&left_bytes))?;
-            println!(rt; "    {}", Hex(&right_bytes))?;
-            Tally::pair(left, right)
+            print_record(rt, left)?;
+            print_record(rt, right)?;
         }
-    };
-    let bytes = image.to_bytes();
+    }
     println!(rt; "  and has the image")?;
-    println!(rt; "    {}", Hex(&bytes))?;
-    Ok(())
+    print_record(rt, image(input))
 }
 
 // What a challenge says of a block.
-fn print_verdict(
-    rt: &HostRuntime,
-    sides: &Sides<'_, Tally, Full<Tally>>,
-    block: &[u8],
-) -> anyhow::Result<()> {
-    match sides.bridge.challenge(block) {
-        Ok(Verdict::Stands) => println!(rt; "The challenge says that the block stands.")?,
+fn print_verdict(rt: &HostRuntime, bridge: &FullBridge<Tally>, block: &[u8]) -> io::Result<()> {
+    match bridge.challenge(block) {
+        Ok(Verdict::Stands) => println!(rt; "The challenge says that the block stands."),
         Ok(
             Verdict::Differs {
                 position,
@@ -137,19 +150,22 @@ fn print_verdict(
                 "The bridge is asked what is wrong with it. Its answer is position {number}, where two inputs have one image."
             )?;
             print_input(rt, "forest's own", own)?;
-            print_input(rt, "block's", claimed)?;
+            print_input(rt, "block's", claimed)
         }
-        Err(refusal) => println!(rt; "The challenge is refused: {refusal}.")?,
+        Err(refusal) => println!(rt; "The challenge is refused: {refusal}."),
     }
-    Ok(())
 }
 
 // Under Tally two inputs with one image are easily found, so a block can be forged.
-fn forge(rt: &HostRuntime, sides: &mut Sides<'_, Tally, Full<Tally>>) -> anyhow::Result<()> {
+fn forge(
+    rt: &HostRuntime,
+    bridge: &mut FullBridge<Tally>,
+    wallet: &mut Wallet<Tally>,
+) -> anyhow::Result<()> {
     println!(rt; "Block 1 adds the coins 1 and 2.")?;
-    let block = sides.write(rt.alloc(), &[], &[coin(1), coin(2)])?;
-    sides.take(block.as_slice())?;
-    sides.print_state(rt)?;
+    let block = write_block(rt.alloc(), bridge, &[], &[coin(1), coin(2)])?;
+    take(bridge, wallet, block.as_slice())?;
+    print_state(rt, bridge, wallet)?;
     println!(rt; "A forged block spends coin 6 at position 0, which is that of coin 1.")?;
     let mut forged = [0; 78];
     compose(
@@ -159,18 +175,20 @@ fn forge(rt: &HostRuntime, sides: &mut Sides<'_, Tally, Full<Tally>>) -> anyhow:
         &[],
         &mut forged,
     )
-    .map_err(|refusal| anyhow!("{refusal}"))?;
-    print_answer(rt, "wallet", sides.wallet.take(&forged))?;
-    print_answer(rt, "bridge", sides.bridge.take(&forged))?;
-    print_verdict(rt, sides, &forged)
+    .map_err(Error::msg)?;
+    print_answer(rt, "wallet", wallet.take(&forged))?;
+    print_answer(rt, "bridge", bridge.take(&forged))?;
+    print_verdict(rt, bridge, &forged)?;
+    Ok(())
 }
 
 // A wallet follows a bridge.
 fn demonstrate_following(rt: &HostRuntime, marks: &mut [State]) -> anyhow::Result<()> {
     println!(rt; "A wallet follows a bridge over a full keeper, under BLAKE2s.")?;
-    let mut sides = begin(Full::<Blake2s>::new(rt.alloc(), 16)?, marks);
-    follow(rt, &mut sides)?;
-    refuse(rt, &mut sides)
+    let mut bridge = Bridge::new(Full::<Blake2s>::new(rt.alloc(), 16)?);
+    let mut wallet = Wallet::new(marks);
+    follow(rt, &mut bridge, &mut wallet)?;
+    refuse(rt, &mut bridge, &mut wallet)
 }
 
 // A forged block.
@@ -178,12 +196,13 @@ fn demonstrate_forgery(rt: &HostRuntime, marks: &mut [State]) -> anyhow::Result<
     println!(rt;
         "The same under Tally, a compression for which inputs with one image are easily found."
     )?;
-    let mut sides = begin(Full::<Tally>::new(rt.alloc(), 16)?, marks);
-    forge(rt, &mut sides)
+    let mut bridge = Bridge::new(Full::<Tally>::new(rt.alloc(), 16)?);
+    let mut wallet = Wallet::new(marks);
+    forge(rt, &mut bridge, &mut wallet)
 }
 
-// The demonstration.
-pub(crate) fn demonstrate(rt: &HostRuntime) -> anyhow::Result<()> {
+// The demonstration, printed as it goes.
+pub fn demonstrate(rt: &HostRuntime) -> anyhow::Result<()> {
     let mut marks = vec![in rt.alloc(); State::empty(); 4]?;
     println!(rt; "Let coin k be 32 bytes of the number k.")?;
     println!(rt)?;
