@@ -3,9 +3,9 @@
 
 mod beside;
 
-use beside::{print_card, print_state, take, take_back, write_block, write_card};
 use answer::hex::Hex;
 use anyhow::Error;
+use beside::{print_card, print_state, take, take_back, write_block, write_card};
 use block::compose::compose;
 use bridge::Bridge;
 use challenge::verdict::Verdict;
