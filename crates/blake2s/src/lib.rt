@@ -7,6 +7,7 @@ mod tests;
 mod words;
 
 ghost use Rattle.std.specs.Prelude.{◌≡◌, ◌≤◌, [], length, codes};
+ghost use Rattle.std.proofs.Common.{rules};
 ghost use Rattle.blake2s.specs.Blake2s.{blake2s, answer};
 ghost use Rattle.blake2s.specs.Examples.{abc_digest, empty_digest};
 
@@ -45,9 +46,23 @@ pub fn digest(message: &[u8]) -> Result<[u8; 32], Refusal>
     Ok(hash::<0>(message))
 }
 
-// The digest of a message of N bytes, as a tag and one or two records of 32: compiled for that length.
+// Arrays of at most 128 bytes, so that their digest is not refused: a tag, and one or two records of 32.
+pub trait Short<const N: usize> {
+    ghost few: { N ≤ 128 };
+}
+
+impl Short<33> for [u8; 33] {
+    ghost few = { Prim.search rules };
+}
+
+impl Short<65> for [u8; 65] {
+    ghost few = { Prim.search rules };
+}
+
+// The digest of a message of N bytes, compiled for that length.
 pub fn digest_of<const N: usize>(message: &[u8; N]) -> [u8; 32]
-    requires { N ≤ 128 }
+where
+    [u8; N]: Short<N>,
     ensures { result ≡ blake2s message.now }
 {
     hash::<N>(message)
