@@ -46,7 +46,7 @@ pub fn runs(count: u32, row: u8) -> u32
 }
 
 // Whether a place is in the forest. The place above a root is not, since its run reaches past the count.
-pub fn is_inside(count: u32, node: Node) -> bool
+fn is_inside(count: u32, node: Node) -> bool
     ensures value { result ≡ inside count (node_of node) }
     ensures low { result ≡ true → node.row < 32 }
 {
