@@ -1,7 +1,7 @@
 -- Numbers and places: halves, a place without one of its bits, and the ones at a number's low end.
-use Rattle.std.proofs.Common.{◌≡◌, ℕ, zero, suc, ◌+◌, ◌-◌, ◌*◌, ◌/◌, ◌%◌, ◌^◌, ◌<◌, ◌≤◌, sym, ap, ◌∙◌, arith, pow_pos, shr-shr, w32}
+use Rattle.std.proofs.Common.{◌≡◌, ℕ, zero, suc, ◌+◌, ◌-◌, ◌*◌, ◌/◌, ◌%◌, ◌^◌, ◌<◌, ◌≤◌, sym, ap, ◌∙◌, arith, shr-shr, w32}
 use Rattle.std.specs.Int.{trailing_ones}
-use Rattle.std.proofs.lemmas.Nat.{shr_split, shl-shr, shr_high}
+use Rattle.std.proofs.lemmas.Nat.{shr_split, shl-shr}
 use Rattle.std.proofs.lemmas.Nat.Bits.{bit_at-trailing_ones}
 use Rattle.std.proofs.Math.Nat.{mul-le-mul_right}
 use Rattle.place.proofs.Powers.{pow_next}

@@ -1,5 +1,5 @@
 -- One coin more, and what becomes of a coin of the shelf when trees are joined.
-use Rattle.std.specs.Prelude.{ℕ, ◌+◌, ◌*◌, ◌/◌, ◌%◌, ◌^◌, cond, Option, ◌==◌}
+use Rattle.std.specs.Prelude.{ℕ, ◌%◌, cond, Option, ◌==◌}
 use Rattle.utreexo.specs.declared.types.Coin.{Coin}
 use Rattle.utreexo.specs.declared.types.Value.{Value}
 use Rattle.utreexo.specs.Values.{Image}

@@ -5,7 +5,7 @@ ghost use Rattle.shelf.specs.Held.{held_of};
 ghost use Rattle.grow.specs.Grown.{other};
 
 use shelf::close::close;
-use shelf::record::Record;
+use shelf::held::Held;
 use utreexo::types::Value;
 
 // The root of the other tree, for a coin whose tree is that of place `top`: the left one, if the place is even.
@@ -17,7 +17,7 @@ fn other_root(top: u32, left: Option<Value>, right: Option<Value>) -> Option<Val
 
 // A coin of the shelf, when the two trees of a row with these roots become one: if it is in either, the other's root goes on top of its
 // path, or where that is blank the coin rises a row.
-fn join_record(held: &mut Record, row: u8, left: Option<Value>, right: Option<Value>)
+fn join_coin(held: &mut Held, row: u8, left: Option<Value>, right: Option<Value>)
     requires { row < 31 }
     ensures { held_of held.new ≡ tree_joined row left right (held_of held.old) }
 {
@@ -38,16 +38,11 @@ fn join_record(held: &mut Record, row: u8, left: Option<Value>, right: Option<Va
 }
 
 // Several coins of the shelf, when two trees become one.
-pub(crate) fn join_records(
-    records: &mut [Record],
-    row: u8,
-    left: Option<Value>,
-    right: Option<Value>,
-)
+pub(crate) fn join_coins(coins: &mut [Held], row: u8, left: Option<Value>, right: Option<Value>)
     requires { row < 31 }
-    ensures { map held_of records.new ≡ map (tree_joined row left right) (map held_of records.old) }
+    ensures { map held_of coins.new ≡ map (tree_joined row left right) (map held_of coins.old) }
 {
-    for held in records {
-        join_record(held, row, left, right);
+    for held in coins {
+        join_coin(held, row, left, right);
     }
 }

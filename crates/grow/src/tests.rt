@@ -2,7 +2,7 @@
 // bytes l and r is 3 × l + 5 × r, mod 256.
 use crate::add_all;
 use compression::tally::*;
-use shelf::record::Record as Held;
+use shelf::held::Held;
 use shelf::state::State;
 use shelf::table::Shelf;
 use std::process::Abort;
@@ -62,13 +62,13 @@ fn shelf_follows(rt: HostRuntime) {
         count: 3,
         roots,
         shelf: Shelf {
-            records: [held; 8],
+            coins: [held; 8],
             len: 1,
         },
     };
     assert!(rt; add_all::<Tally>(&mut state, &[coin(6)]).is_ok());
     check_root(&rt, &state, 2, Some(value(53)));
-    let after = state.shelf.records[0];
+    let after = state.shelf.coins[0];
     assert_eq!(rt; (after.row, after.place, after.len), (1, 0, 1));
     let path = after.path;
     assert_eq!(rt; path.first().copied(), Some(value(7)));

@@ -7,7 +7,7 @@ use Rattle.utreexo.specs.Lists.{filter, any}
 use Rattle.utreexo.specs.Forest.{Node}
 use Rattle.utreexo.specs.Claims.{Target, beneath}
 use Rattle.utreexo.specs.Wallet.{Held}
-use Rattle.shelf.specs.declared.record.Record.{Record}
+use Rattle.shelf.specs.declared.held.Held.{Held as HeldCode}
 use Rattle.shelf.specs.Held.{held_of}
 
 -- two tests of each are two passes
@@ -23,8 +23,8 @@ one_pass d (t ∷ ts) =
     ap (λ b. (beneath t.node d || beneath d t.node) || b) (one_pass d ts)
     ∙ both_any (beneath t.node d) (beneath d t.node) (any (λ u. beneath u.node d) ts) (any (λ u. beneath d u.node) ts)
 
--- a filter of records is one of what they hold
-filter_held : (q : Held → Bool) (rs : List Record) → map held_of (lists.filter (λ r. q (held_of r)) rs) ≡ filter q (map held_of rs)
+-- a filter of the array is one of the shelf
+filter_held : (q : Held → Bool) (rs : List HeldCode) → map held_of (lists.filter (λ r. q (held_of r)) rs) ≡ filter q (map held_of rs)
 filter_held q [] = refl
 filter_held q (r ∷ rs) =
     elim (q (held_of r)) as (λ b. map held_of (cond b (r ∷ lists.filter (λ z. q (held_of z)) rs) (lists.filter (λ z. q (held_of z)) rs)) ≡ cond b (held_of r ∷ filter q (map held_of rs)) (filter q (map held_of rs))) [
@@ -32,12 +32,12 @@ filter_held q (r ∷ rs) =
       | false ↦ filter_held q rs
     ]
 
-pub filtered : (q : Held → Bool) (xs ys : List Record) (k i len : ℕ) → i ≡ len → FiltersInPlace (λ r. q (held_of r)) xs ys k i → map held_of (take k ys) ≡ filter q (map held_of (take len xs))
+pub filtered : (q : Held → Bool) (xs ys : List HeldCode) (k i len : ℕ) → i ≡ len → FiltersInPlace (λ r. q (held_of r)) xs ys k i → map held_of (take k ys) ≡ filter q (map held_of (take len xs))
 filtered q xs ys k i len e was = ap (map held_of) was.front ∙ filter_held q (take i xs) ∙ ap (λ (n : ℕ). filter q (map held_of (take n xs))) e
 
-module _ {p : Record → Bool} {xs ys : List Record} {k i : ℕ} (d : Record) (was : FiltersInPlace p xs ys k i) (lt : i < length ys) where
-  pub record_stays : p (get_or ys i d) ≡ true → FiltersInPlace p xs (set ys k (get_or ys i d)) (k + 1) (i + 1)
-  record_stays e = FiltersInPlace-more_set was lt e (get_or_default ys i d (get_or ys i d) lt)
+module _ {p : HeldCode → Bool} {xs ys : List HeldCode} {k i : ℕ} (d : HeldCode) (was : FiltersInPlace p xs ys k i) (lt : i < length ys) where
+  pub coin_stays : p (get_or ys i d) ≡ true → FiltersInPlace p xs (set ys k (get_or ys i d)) (k + 1) (i + 1)
+  coin_stays e = FiltersInPlace-more_set was lt e (get_or_default ys i d (get_or ys i d) lt)
 
-  pub record_leaves : p (get_or ys i d) ≡ false → FiltersInPlace p xs ys k (i + 1)
-  record_leaves e = FiltersInPlace-more_no was lt e (get_or_default ys i d (get_or ys i d) lt)
+  pub coin_leaves : p (get_or ys i d) ≡ false → FiltersInPlace p xs ys k (i + 1)
+  coin_leaves e = FiltersInPlace-more_no was lt e (get_or_default ys i d (get_or ys i d) lt)

@@ -1,5 +1,5 @@
 -- A coin of the shelf refreshed by a table of after-values.
-use Rattle.std.specs.Prelude.{ℕ, ◌+◌, ◌*◌, ◌/◌, ◌%◌, ◌^◌, List, [], ◌∷◌, Some, None, Option}
+use Rattle.std.specs.Prelude.{ℕ, ◌+◌, ◌/◌, List, [], ◌∷◌, Some, None, Option}
 use Rattle.utreexo.specs.declared.types.Value.{Value}
 use Rattle.utreexo.specs.Forest.{sibling, strike}
 use Rattle.utreexo.specs.Wallet.{Held, moved}

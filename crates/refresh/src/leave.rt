@@ -9,12 +9,12 @@ ghost use Rattle.shelf.specs.Held.{held_of, shelf_of};
 ghost use Rattle.refresh.specs.Spent.{stays};
 
 use place::is_beneath;
-use shelf::record::Record;
+use shelf::held::Held;
 use shelf::table::Shelf;
 use targets::spend::Spend;
 
 // Whether a coin's position is covered, so at a target or above one, or is beneath a target.
-fn is_spent(held: &Record, spends: &[Spend]) -> bool
+fn is_spent(held: &Held, spends: &[Spend]) -> bool
     ensures { result ≡ leaves_shelf (targets spends.now) (held_of held.now) }
 {
     let node = held.node();
@@ -27,9 +27,9 @@ pub(crate) fn drop_spent(shelf: &mut Shelf, spends: &[Spend])
 {
     let mut kept = 0;
     for i in 0..shelf.len {
-        let held = shelf.records[i as usize];
+        let held = shelf.coins[i as usize];
         if !is_spent(&held, spends) {
-            shelf.records[kept as usize] = held;
+            shelf.coins[kept as usize] = held;
             kept += 1;
         }
     }

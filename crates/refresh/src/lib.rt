@@ -30,6 +30,6 @@ pub fn spend(state: &mut State, targets: &Targets, after: &AfterValues, roots: &
     ensures spent { Spends (placed targets.now) after.now roots.now (view_of state.old) (view_of state.new) }
 {
     drop_spent(&mut state.shelf, targets.as_slice());
-    refresh_all(&mut state.shelf.records, state.shelf.len, after);
+    refresh_all(&mut state.shelf.coins, state.shelf.len, after);
     state.roots = *roots;
 }

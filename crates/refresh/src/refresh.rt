@@ -7,7 +7,7 @@ ghost use Rattle.refresh.specs.Refreshed.{settled, refreshed_by};
 use climb::after::AfterValues;
 use place::{runs, sibling_place};
 use shelf::close::close;
-use shelf::record::Record;
+use shelf::held::Held;
 use utreexo::types::Value;
 
 // What the hash of a position becomes: the after-value, if the position is covered.
@@ -19,7 +19,7 @@ fn renew(after: &AfterValues, row: u8, place: u32, hash: Value) -> Option<Value>
 
 // Refreshes one coin in its own place: a hash whose position is covered gives way to the after-value, and where that is absent the hash and
 // its bit are struck out. By index: the hashes that are kept move down in the array that is read.
-fn refresh(held: &mut Record, after: &AfterValues)
+fn refresh(held: &mut Held, after: &AfterValues)
     ensures { held_of held.new ≡ refreshed_by (look after.now) (held_of held.old) }
 {
     let mut row = held.row;
@@ -43,14 +43,14 @@ fn refresh(held: &mut Record, after: &AfterValues)
     held.len = kept;
 }
 
-// Refreshes the coins of the shelf, which are the first `len` records. They are lent apart from the shelf. Tried: a part of the array that is
-// a lent struct's field cannot be lent on.
-pub(crate) fn refresh_all(records: &mut [Record; 8], len: u8, after: &AfterValues)
+// Refreshes the coins of the shelf, which are the first `len` of the array. They are lent apart from the shelf. Tried: a part of the array
+// that is a lent struct's field cannot be lent on.
+pub(crate) fn refresh_all(coins: &mut [Held; 8], len: u8, after: &AfterValues)
     requires { len ≤ 8 }
-    ensures refreshed { map held_of (take len records.new) ≡ map (refreshed_by (look after.now)) (map held_of (take len records.old)) }
-    ensures eight { length records.new ≡ 8 }
+    ensures refreshed { map held_of (take len coins.new) ≡ map (refreshed_by (look after.now)) (map held_of (take len coins.old)) }
+    ensures eight { length coins.new ≡ 8 }
 {
-    for held in records[..len as usize].iter_mut() {
+    for held in coins[..len as usize].iter_mut() {
         refresh(held, after);
     }
 }

@@ -8,13 +8,13 @@ use climb::after::AfterValues;
 use climb::climb::climb;
 use compression::tally::Tally;
 use place::{Node, position_of};
-use shelf::record::Record;
+use shelf::held::Held;
 use shelf::state::State;
 use shelf::table::Shelf;
 use std::process::Abort;
 use std::test::Fail;
 use targets::placed::Targets;
-use utreexo::record::Record as AsBytes;
+use utreexo::record::Record;
 use utreexo::types::*;
 
 fn value(byte: u8) -> Value {
@@ -26,14 +26,14 @@ fn coin(byte: u8) -> Coin {
 }
 
 // The coin of a slot with its path.
-fn held(byte: u8, slot: u32, low: u8, high: u8) -> Record
+fn held(byte: u8, slot: u32, low: u8, high: u8) -> Held
     requires { slot < 4 }
     ensures { stands 4 (held_of result) ≡ true }
 {
     let mut path = [Value::default(); 31];
     path[0] = value(low);
     path[1] = value(high);
-    Record {
+    Held {
         coin: coin(byte),
         row: 0,
         place: slot,
@@ -44,15 +44,15 @@ fn held(byte: u8, slot: u32, low: u8, high: u8) -> Record
 
 fn four_slots() -> State {
     let first = held(1, 0, 3, 37);
-    let mut records = [first; 8];
-    records[1] = held(3, 2, 5, 21);
-    records[2] = held(4, 3, 4, 21);
+    let mut coins = [first; 8];
+    coins[1] = held(3, 2, 5, 21);
+    coins[2] = held(4, 3, 4, 21);
     let mut roots = [None; 32];
     roots[2] = Some(value(248));
     State {
         count: 4,
         roots,
-        shelf: Shelf { records, len: 3 },
+        shelf: Shelf { coins, len: 3 },
     }
 }
 
@@ -65,7 +65,7 @@ fn spent(targets: &Targets, hashes: &[u8]) -> State {
     state
 }
 
-fn check_coin(rt: &impl Abort, held: Record, byte: u8, position: u64, path: &[u8]) {
+fn check_coin(rt: &impl Abort, held: Held, byte: u8, position: u64, path: &[u8]) {
     let node = Node {
         row: held.row,
         place: held.place,
@@ -85,9 +85,9 @@ fn one_of_two_spent(rt: HostRuntime) -> Result<(), Fail> {
     hashes[32..].copy_from_slice(&[37; 32]);
     let state = spent(&targets, &hashes);
     assert_eq!(rt; state.shelf.len, 3);
-    check_coin(&rt, state.shelf.records[0], 1, 4, &[37]);
-    check_coin(&rt, state.shelf.records[1], 3, 2, &[5, 2]);
-    check_coin(&rt, state.shelf.records[2], 4, 3, &[4, 2]);
+    check_coin(&rt, state.shelf.coins[0], 1, 4, &[37]);
+    check_coin(&rt, state.shelf.coins[1], 3, 2, &[5, 2]);
+    check_coin(&rt, state.shelf.coins[2], 4, 3, &[4, 2]);
     let root = state.roots[2];
     assert_eq!(rt; root, Some(value(191)));
     Ok(())
@@ -99,8 +99,8 @@ fn both_of_two_spent(rt: HostRuntime) -> Result<(), Fail> {
     let targets = Targets::place(4, &positions, &[coin(1), coin(2)])?;
     let state = spent(&targets, &[37; 32]);
     assert_eq!(rt; state.shelf.len, 2);
-    check_coin(&rt, state.shelf.records[0], 3, 4, &[5]);
-    check_coin(&rt, state.shelf.records[1], 4, 5, &[4]);
+    check_coin(&rt, state.shelf.coins[0], 3, 4, &[5]);
+    check_coin(&rt, state.shelf.coins[1], 4, 5, &[4]);
     let root = state.roots[2];
     assert_eq!(rt; root, Some(value(37)));
     Ok(())

@@ -14,7 +14,7 @@ use Rattle.laws.proofs.Order.{Mem}
 use Rattle.laws.proofs.Members.{first_some, mem_append, take_mem, any_none, none_any}
 use Rattle.laws.proofs.Positions.{over_tree}
 use Rattle.place.specs.Nodes.{position_at}
-use Rattle.shelf.specs.declared.record.Record.{Record}
+use Rattle.shelf.specs.declared.held.Held.{Held as HeldCode}
 use Rattle.shelf.specs.declared.table.Shelf.{Shelf}
 use Rattle.shelf.specs.Held.{held_of, shelf_of, stands, astray}
 use Rattle.shelf.specs.Finding.{index_of, has_position}
@@ -27,18 +27,18 @@ use Rattle.shelf.proofs.Closing.{shelf_length}
 pub index_low : (s : Shelf) (q : Held → Bool) (i : ℕ) → index_of q (shelf_of s) ≡ Some i → i < s.len
 index_low s q i e = let w = (with q (shelf_of s) i e).within in let n = shelf_length s in omega arith
 
--- the record of the coin that has the position
-pub record_first : (s : Shelf) (q : Held → Bool) (i : ℕ) → index_of q (shelf_of s) ≡ Some i → (d : Record) → first q (shelf_of s) ≡ Some (held_of (get_or s.records i d))
-record_first s q i e d =
+-- the coin that has the position, in the array
+pub coin_first : (s : Shelf) (q : Held → Bool) (i : ℕ) → index_of q (shelf_of s) ≡ Some i → (d : HeldCode) → first q (shelf_of s) ≡ Some (held_of (get_or s.coins i d))
+coin_first s q i e d =
     let w = with q (shelf_of s) i e in
     let l = index_low s q i e in
     let n = shelf_length s in
-    let long : length (take s.len s.records) ≡ s.len = length-take-le s.len s.records (let f = s.few in let g = s.eight in omega arith) in
+    let long : length (take s.len s.coins) ≡ s.len = length-take-le s.len s.coins (let f = s.few in let g = s.eight in omega arith) in
     w.is_first (held_of d)
-    ∙ ap (λ h. Some h) (get_or-map held_of (take s.len s.records) i d (held_of d) (omega arith) ∙ ap held_of (get_or-take s.len s.records i d l))
+    ∙ ap (λ h. Some h) (get_or-map held_of (take s.len s.coins) i d (held_of d) (omega arith) ∙ ap held_of (get_or-take s.len s.coins i d l))
 
 -- a path has few hashes
-pub path_few : (r : Record) → length (take r.len r.path) ≤ 31
+pub path_few : (r : HeldCode) → length (take r.len r.path) ≤ 31
 path_few r = let f = r.fits in let l = length-take r.len r.path in omega arith
 
 -- its card is what compose writes
@@ -95,7 +95,7 @@ pub position_here : (n : ℕ) → n < 2 ^ 32 → (h : Held) → stands n h ≡ t
 position_here n small h s =
     ap (λ z. cond (is_some z) (Some (position_of n h)) None) (over_tree n h.row h.place (h.row + length h.path) small (standing_over n h s))
 
-pub position_in : (n : ℕ) → n < 2 ^ 32 → (rs : List Record) (i : ℕ) (r : Record) → astray n (map held_of rs) ≡ false → i < length rs → r ≡ get_or rs i r
+pub position_in : (n : ℕ) → n < 2 ^ 32 → (rs : List HeldCode) (i : ℕ) (r : HeldCode) → astray n (map held_of rs) ≡ false → i < length rs → r ≡ get_or rs i r
     → position_at n (at_node r.row r.place) ≡ slice_get (map (position_of n) (map held_of rs)) i
 position_in n small rs i r e l is =
     let hs = map held_of rs in

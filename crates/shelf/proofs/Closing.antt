@@ -1,10 +1,10 @@
--- A coin taken off the shelf: the records after it move up.
+-- A coin taken off the shelf: those after it move up.
 use Rattle.std.proofs.Common.{◌≡◌, ℕ, suc, ◌+◌, ◌-◌, ◌<◌, ◌≤◌, List, ◌++◌, length, take, drop, map, sym, ap, ◌∙◌, ap₂, arith}
 use Rattle.std.specs.List.{remove, copy_within}
 use Rattle.std.proofs.lemmas.List.{map-append, take-map, drop-map, take-take, take_rest, drop-take, length-take-le, length-drop, length-map}
 use Rattle.std.proofs.Math.Seq.{take-append-add}
 use Rattle.std.proofs.lemmas.List.Edits.{take-paste}
-use Rattle.shelf.specs.declared.record.Record.{Record}
+use Rattle.shelf.specs.declared.held.Held.{Held as HeldCode}
 use Rattle.shelf.specs.declared.table.Shelf.{Shelf}
 use Rattle.shelf.specs.Held.{held_of, shelf_of}
 
@@ -34,7 +34,7 @@ pub shelf_length : (s : Shelf) → length (shelf_of s) ≡ s.len
 shelf_length s =
     let e = s.eight in
     let f = s.few in
-    length-map (take s.len s.records) held_of ∙ length-take-le s.len s.records (omega arith)
+    length-map (take s.len s.coins) held_of ∙ length-take-le s.len s.coins (omega arith)
 
-pub shelf_closed : (rs : List Record) (i n : ℕ) → i < n → n ≤ length rs → map held_of (take (n - 1) (copy_within rs (i + 1) (length rs) i)) ≡ remove (map held_of (take n rs)) i
+pub shelf_closed : (rs : List HeldCode) (i n : ℕ) → i < n → n ≤ length rs → map held_of (take (n - 1) (copy_within rs (i + 1) (length rs) i)) ≡ remove (map held_of (take n rs)) i
 shelf_closed rs i n l g = ap (map held_of) (gap_closed rs i n l g) ∙ map_remove held_of (take n rs) i

@@ -10,13 +10,13 @@ ghost use Rattle.shelf.specs.Finding.{has_position};
 ghost use Rattle.shelf.specs.Views.{view_of};
 ghost use Rattle.shelf.specs.Shown.{card_at};
 
-use crate::record::Record;
+use crate::held::Held;
 use crate::state::State;
 use block::compose::compose;
 use refusal::Refusal;
 use utreexo::types::Position;
 
-impl Record {
+impl Held {
     // Writes the block that spends the coin alone, at this position, and adds none.
     fn write_card(&self, position: Position, out: &mut [u8]) -> Result<usize, Refusal>
         ensures answer { answered result out.new ≡ composing (position.number ∷ []) (self.now.coin ∷ []) (held_of self.now).path [] out.old }
@@ -32,8 +32,8 @@ impl State {
         ensures { number_of result ≡ slice_get (map (position_of self.now.count) (shelf_of self.now.shelf)) index }
     {
         let count = self.count;
-        let record = self.shelf.as_slice().get(index)?;
-        place::position_of(count, record.node())
+        let held = self.shelf.as_slice().get(index)?;
+        place::position_of(count, held.node())
     }
 
     // Takes the coin at a position off the shelf.
@@ -56,6 +56,6 @@ impl State {
         let Some(index) = self.find(position) else {
             return Err(Refusal::NotOnShelf);
         };
-        self.shelf.records[index].write_card(position, out)
+        self.shelf.coins[index].write_card(position, out)
     }
 }

@@ -4,7 +4,7 @@
 mod calls;
 pub mod close;
 mod edit;
+pub mod held;
 mod lookup;
-pub mod record;
 pub mod state;
 pub mod table;

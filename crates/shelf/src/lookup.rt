@@ -5,13 +5,13 @@ ghost use Rattle.utreexo.specs.Forest.{at_node};
 ghost use Rattle.shelf.specs.Held.{held_of, shelf_of};
 ghost use Rattle.shelf.specs.Finding.{index_of, is_at, has_position};
 
-use crate::record::Record;
+use crate::held::Held;
 use crate::state::State;
 use crate::table::Shelf;
 use place::Node;
 use utreexo::types::{Position, Value};
 
-impl Record {
+impl Held {
     // Where the coin is.
     pub fn node(&self) -> Node
         ensures { node_of result ≡ at_node self.now.row self.now.place }
@@ -32,19 +32,17 @@ impl Record {
 
 impl Shelf {
     // The coins in the order watched.
-    pub fn as_slice(&self) -> &[Record]
+    pub fn as_slice(&self) -> &[Held]
         ensures { map held_of result.now ≡ shelf_of self.now }
     {
-        &self.records[..self.len as usize]
+        &self.coins[..self.len as usize]
     }
 
     // The number of the first coin at a place, counted from 0.
     pub fn find(&self, node: Node) -> Option<usize>
         ensures { result ≡ index_of (is_at (node_of node)) (shelf_of self.now) }
     {
-        self.as_slice()
-            .iter()
-            .position(|record| record.node() == node)
+        self.as_slice().iter().position(|held| held.node() == node)
     }
 }
 

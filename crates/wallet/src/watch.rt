@@ -16,17 +16,17 @@ use compression::Compression;
 use proof::judge::judge;
 use proof::readable::Block;
 use refusal::Refusal;
-use shelf::record::Record;
+use shelf::held::Held;
 use shelf::state::State;
 use std::array;
 use targets::spend::Spend;
 
-// The record of a target's coin, with these hashes for its path.
-fn record_of(target: Spend, hashes: &[u8]) -> Record
+// A target's coin, as the shelf holds it: with these hashes for its path.
+fn coin_of(target: Spend, hashes: &[u8]) -> Held
     requires { target.node.row + length hashes.now / 32 ≤ 31 }
     ensures { held_of result ≡ held_with (target_of target) (hashes_in hashes.now) }
 {
-    Record {
+    Held {
         coin: target.coin,
         row: target.node.row,
         place: target.node.place,
@@ -60,7 +60,7 @@ pub(crate) fn watched<C: Compression>(state: State, bytes: &[u8]) -> Result<Stat
         return Err(Refusal::AlreadyOnShelf);
     };
     let mut next = state;
-    let Ok(()) = next.shelf.push(record_of(target, card.hashes())) else {
+    let Ok(()) = next.shelf.push(coin_of(target, card.hashes())) else {
         return Err(Refusal::ShelfFull);
     };
     Ok(next)

@@ -4,7 +4,7 @@ ghost use Rattle.utreexo.specs.Wallet.{empty_view};
 ghost use Rattle.shelf.specs.Views.{view_of};
 
 use super::State;
-use crate::record::Record;
+use crate::held::Held;
 use crate::table::Shelf;
 use utreexo::types::{Coin, Value};
 
@@ -13,7 +13,7 @@ impl State {
     pub fn empty() -> State
         ensures { view_of result ≡ empty_view }
     {
-        let none = Record {
+        let none = Held {
             coin: Coin::default(),
             row: 0,
             place: 0,
@@ -24,7 +24,7 @@ impl State {
             count: 0,
             roots: [None; 32],
             shelf: Shelf {
-                records: [none; 8],
+                coins: [none; 8],
                 len: 0,
             },
         }

@@ -15,7 +15,7 @@ loop-row-init g c =
       eight = s.shelf.eight;
       carried =
           rw (take-append-drop c.trailing_ones-joined.result s.roots)
-          (carried_none g.C.Compression.image s.count c.args.coin c.leaf.result s.roots (map held_of (take s.shelf.len s.shelf.records)) c.leaf.ensures s.standing);
+          (carried_none g.C.Compression.image s.count c.args.coin c.leaf.result s.roots (map held_of (take s.shelf.len s.shelf.coins)) c.leaf.ensures s.standing);
     }
 
 pub loop-row-preserved : goal.loop-row-preserved
@@ -24,16 +24,16 @@ loop-row-preserved g c =
     let l = c.loop-row in
     let t = c.trailing_ones-joined.result in
     let o = ones_at s.count t c.requires c.trailing_ones-joined.ensures in
-    let n : length c.join_records.new.records ≡ s.shelf.len = omega (arith, length-take-le s.shelf.len l.records (omega arith), c.join_records.auto.records) in
+    let n : length c.join_coins.new.coins ≡ s.shelf.len = omega (arith, length-take-le s.shelf.len l.coins (omega arith), c.join_coins.auto.coins) in
     let trees : length l.stored-items ≡ t = omega (arith, l.auto.stored-items, length-take-le t s.roots (omega (arith, o.low, s.rows))) in
     record {
       eight = simp (length-append, length-drop) (omega arith);
       carried =
           carried_so g.C.Compression.image s.count (added g.C.Compression.image (view_of s) c.args.coin) l.row l.root l.stored-items
-          (drop t s.roots) (map held_of (take s.shelf.len l.records)) c.take-left.result c.join-root.result c.take-left.new.self
-          (map held_of (take s.shelf.len (c.join_records.new.records ++ drop s.shelf.len l.records))) (omega (arith, o.low)) (omega arith)
+          (drop t s.roots) (map held_of (take s.shelf.len l.coins)) c.take-left.result c.join-root.result c.take-left.new.self
+          (map held_of (take s.shelf.len (c.join_coins.new.coins ++ drop s.shelf.len l.coins))) (omega (arith, o.low)) (omega arith)
           (o.one_bits l.row (omega arith)) l.invariant.carried c.take-left.ensures.value c.join-root.ensures c.take-left.ensures.after
-          (ap (map held_of) (front_replaced s.shelf.len c.join_records.new.records l.records n) ∙ c.join_records.ensures);
+          (ap (map held_of) (front_replaced s.shelf.len c.join_coins.new.coins l.coins n) ∙ c.join_coins.ensures);
     }
 
 pub invariant_of-state-2 : goal.invariant_of-state-2
@@ -47,7 +47,7 @@ invariant_of-state-2 g c =
       rows = simp (length-set, length-append, length-drop) (omega (arith, s.rows, o.low));
       standing =
           carried_placed g.C.Compression.image s.count (added g.C.Compression.image (view_of s) c.args.coin) l.row t l.root (l.stored-items ++ drop t s.roots)
-          (map held_of (take s.shelf.len l.records)) (omega arith) o.low o.zero_bit l.invariant.carried o.filled;
+          (map held_of (take s.shelf.len l.coins)) (omega arith) o.low o.zero_bit l.invariant.carried o.filled;
     }
 
 pub returns-clause-view : goal.returns-clause-view
@@ -58,4 +58,4 @@ returns-clause-view g c =
     let o = ones_at s.count t c.requires c.trailing_ones-joined.ensures in
     let trees : length l.stored-items ≡ t = omega (arith, l.auto.stored-items, length-take-le t s.roots (omega (arith, o.low, s.rows))) in
     carried_all g.C.Compression.image s.count (added g.C.Compression.image (view_of s) c.args.coin) l.row t l.root (l.stored-items ++ drop t s.roots)
-    (map held_of (take s.shelf.len l.records)) (omega arith) o.low o.zero_bit l.invariant.carried
+    (map held_of (take s.shelf.len l.coins)) (omega arith) o.low o.zero_bit l.invariant.carried

@@ -8,4 +8,4 @@ use Rattle.refresh.proofs.refresh.refresh_all.Given as goal
 abbrev pub invariant-loop-held : goal.invariant-loop-held
 invariant-loop-held l =
     let new = refreshed_by (look l.after) in
-    map held_of (take l.held-index l.held-items) ++ map new (map held_of (drop l.held-index l.held-items)) ≡ map new (map held_of (take l.len l.fn.records))
+    map held_of (take l.held-index l.held-items) ++ map new (map held_of (drop l.held-index l.held-items)) ≡ map new (map held_of (take l.len l.fn.coins))

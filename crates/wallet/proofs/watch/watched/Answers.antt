@@ -26,8 +26,8 @@ returns-in_default g c =
     on_it g.C.Compression.image v c.args.bytes.now c.in_ok-card.card.bytes.now c.in_ok-card.ensures.1 c.in_ok-card.ensures.0 judged.0 (omega arith) c.in_ok-target.target judged.1
     c.args.state.standing c.in_default.field-0 (sym c.in_default.ensures)
 
-pub record_of-requires : goal.record_of-requires
-record_of-requires g c =
+pub coin_of-requires : goal.coin_of-requires
+coin_of-requires g c =
     let v = view_of c.args.state in
     let judged = c.in_ok-target.ensures in
     path_short g.C.Compression.image v c.args.bytes.now c.in_ok-card.card.bytes.now c.in_ok-card.ensures.1 c.in_ok-card.ensures.0 judged.0 (omega arith) c.in_ok-target.target judged.1
@@ -50,7 +50,7 @@ invariant_of-next g c =
     c.hashes.result.now c.hashes.ensures in
     record {
       rows = s.rows;
-      standing = ap (astray s.count) (c.in-Ok.ensures.answer.1 ∙ ap (λ (h : Held). shelf_of s.shelf ++ (h ∷ [])) c.record_of.ensures) ∙ standing_pushed s.count (shelf_of s.shelf) _ s.standing stands;
+      standing = ap (astray s.count) (c.in-Ok.ensures.answer.1 ∙ ap (λ (h : Held). shelf_of s.shelf ++ (h ∷ [])) c.coin_of.ensures) ∙ standing_pushed s.count (shelf_of s.shelf) _ s.standing stands;
     }
 
 pub returns : goal.returns
@@ -63,5 +63,5 @@ returns g c =
     let judged = c.in_ok-target.ensures in
     let coin = coin_held image v b own c.in_ok-card.ensures.1 c.in_ok-card.ensures.0 judged.0 (omega arith) c.in_ok-target.target judged.1 c.hashes.result.now c.hashes.ensures in (
       not_on_it image v b own c.in_ok-card.ensures.1 c.in_ok-card.ensures.0 judged.0 (omega arith) c.in_ok-target.target judged.1 s.standing (sym c.in-None.ensures) None c.in-Ok.ensures.answer.0,
-      ap (with_shelf v) (c.in-Ok.ensures.answer.1 ∙ ap (λ (h : Held). shelf_of s.shelf ++ (h ∷ [])) c.record_of.ensures ∙ ap (λ (hs : List Held). shelf_of s.shelf ++ hs) coin),
+      ap (with_shelf v) (c.in-Ok.ensures.answer.1 ∙ ap (λ (h : Held). shelf_of s.shelf ++ (h ∷ [])) c.coin_of.ensures ∙ ap (λ (hs : List Held). shelf_of s.shelf ++ hs) coin),
     )

@@ -10,8 +10,8 @@ pub returns : goal.returns
 returns c =
     let s = c.args.self.now in
     let rs = c.as_slice.result.now in
-    let r = c.in_ok-record.record.now in
-    let found = c.in_ok-record.ensures.lookup in
+    let r = c.in_ok-held.held.now in
+    let found = c.in_ok-held.ensures.lookup in
     c.position_of.ensures ∙ ap (position_at s.count) c.node.ensures
     ∙ position_in s.count (omega arith) rs c.args.index r (ap (astray s.count) c.as_slice.ensures ∙ s.standing) (ltb-true c.args.index (length rs) (sym found.0)) found.1
     ∙ ap (λ hs. slice_get (map (position_of s.count) hs) c.args.index) c.as_slice.ensures

@@ -3,7 +3,7 @@ use Rattle.utreexo.specs.Outcomes.{Writes}
 use Rattle.shelf.specs.Held.{held_of}
 use Rattle.shelf.specs.Finding.{has_position}
 use Rattle.shelf.specs.Views.{view_of}
-use Rattle.shelf.proofs.Carded.{shown_none, index_low, record_first, shown_card, card_shown, path_few}
+use Rattle.shelf.proofs.Carded.{shown_none, index_low, coin_first, shown_card, card_shown, path_few}
 use Rattle.shelf.proofs.state.State.show.Goals as goal
 
 pub returns-in_default-clause-answer : goal.returns-in_default-clause-answer
@@ -36,8 +36,8 @@ returns-clause-answer c =
     let s = c.args.self.now in
     let p = c.args.position.number in
     let i = c.in-Some.index in
-    let r = get_or s.shelf.records i c.index-self-index.result in
-    let e = record_first s.shelf (has_position s.count p) i (sym c.in-Some.ensures) c.index-self-index.result in
+    let r = get_or s.shelf.coins i c.index-self-index.result in
+    let e = coin_first s.shelf (has_position s.count p) i (sym c.in-Some.ensures) c.index-self-index.result in
     c.write_card.ensures.answer ∙ shown_card (view_of s) p c.args.out.now (held_of r) e (path_few r)
 
 pub returns-clause-left : goal.returns-clause-left
@@ -45,6 +45,6 @@ returns-clause-left c =
     let s = c.args.self.now in
     let p = c.args.position.number in
     let i = c.in-Some.index in
-    let r = get_or s.shelf.records i c.index-self-index.result in
-    let e = record_first s.shelf (has_position s.count p) i (sym c.in-Some.ensures) c.index-self-index.result in
+    let r = get_or s.shelf.coins i c.index-self-index.result in
+    let e = coin_first s.shelf (has_position s.count p) i (sym c.in-Some.ensures) c.index-self-index.result in
     subst (λ b. Writes b c.args.out.now c.write_card.new.out c.write_card.result) (card_shown (view_of s) p (held_of r) e) c.write_card.ensures.left

@@ -10,4 +10,4 @@ returns c =
     let l = c.requires in
     let e = s.eight in
     let f = s.few in
-    ap (λ rs. map held_of (take (s.len - 1) rs)) c.copy_within.ensures.after ∙ shelf_closed s.records c.args.index s.len (omega arith) (omega arith)
+    ap (λ rs. map held_of (take (s.len - 1) rs)) c.copy_within.ensures.after ∙ shelf_closed s.coins c.args.index s.len (omega arith) (omega arith)

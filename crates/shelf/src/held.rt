@@ -6,7 +6,7 @@ use utreexo::types::{Coin, Value};
 // A coin with its row and place, and its path, the lowest hash first.
 // The path is an array with its length beside it: a state is copied as it is into the history, and an `ArrayVec` is no `Copy`.
 #[derive(Clone, Copy)]
-pub struct Record {
+pub struct Held {
     pub coin: Coin,
     pub row: u8,
     pub place: u32,

@@ -5,7 +5,7 @@ use Rattle.climb.specs.Held.{hashes_in}
 use Rattle.targets.specs.Spends.{target_of}
 use Rattle.wallet.specs.Cards.{held_with}
 use Rattle.wallet.proofs.Filling.{made, hashes_first}
-use Rattle.wallet.proofs.watch.record_of.Goals as goal
+use Rattle.wallet.proofs.watch.coin_of.Goals as goal
 
 pub returns : goal.returns
 returns c =

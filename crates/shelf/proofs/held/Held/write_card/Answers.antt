@@ -1,6 +1,6 @@
 use Rattle.std.proofs.Common.{[], ◌∷◌, ap, ◌∙◌}
 use Rattle.utreexo.specs.Checks.{compose}
-use Rattle.shelf.proofs.record.Record.write_card.Goals as goal
+use Rattle.shelf.proofs.held.Held.write_card.Goals as goal
 
 pub returns-clause-answer : goal.returns-clause-answer
 returns-clause-answer c =
