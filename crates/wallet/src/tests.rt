@@ -1,5 +1,7 @@
 // A wallet at work under Tally: the leaf of the coin of bytes n is n + 1, and the pair of bytes l and r is 3 × l + 5 × r, mod 256. What is
 // expected was worked out by hand.
+mod scale;
+
 use crate::Wallet;
 use block::compose::compose;
 use compression::tally::*;
