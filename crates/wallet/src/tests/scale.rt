@@ -29,6 +29,7 @@ use utreexo::types::*;
 const SLOTS: u32 = 1 << 31;
 
 // The word w0 of an image is how many images it took, itself counted; a hash of a block has zero there. The other words tell values apart.
+// Nothing is inlined, so that a profiler can count the calls.
 struct Counted;
 
 fn mix(left: u64, right: u64) -> u64
@@ -213,7 +214,14 @@ impl Claims {
     }
 }
 
+// A call of its own, so that a profiler can tell what happens in it.
+#[inline(never)]
+fn take(wallet: &mut Wallet<Counted>, block: &[u8]) -> Result<(), Refusal> {
+    wallet.take(block)
+}
+
 // A wallet with these coins on the shelf takes the block, whose claims take so many images, and what is left at the root so many.
+// Both are at most two images for each target and row of the tree.
 fn check_take(
     rt: &impl Abort,
     slots: &[u32; 32],
@@ -233,10 +241,11 @@ fn check_take(
         compression: PhantomData,
     };
     let before = wallet.roots()[31];
-    wallet.take(block.bytes())?;
+    take(&mut wallet, block.bytes())?;
     let roots = *wallet.roots();
     let counts = (before.map(|v| v.w0), roots[31].map(|v| v.w0));
     assert_eq!(rt; counts, (Some(images.0), Some(images.1)));
+    assert!(rt; images.0.saturating_add(images.1) <= 2 * 32 * 31);
     assert_eq!(rt; wallet.shelf_len(), 8);
     for (held, slot) in wallet.state.shelf.as_slice().iter().zip(&watched) {
         claims.check_path(rt, *slot, held);
@@ -246,7 +255,7 @@ fn check_take(
 }
 
 // Each target in a run of 2^26 slots of its own, which needs 26 hashes. Claims: 32 leaves, 32 × 26 places of the rows 1 to 26, and the 31
-// above them. Left: a target's sibling goes up to row 1 as it is, so 32 × 25 places, and the 31. Both are at most 2 × 32 × 31 = 1984.
+// above them. Left: a target's sibling goes up to row 1 as it is, so 32 × 25 places, and the 31.
 // The 32 new coins are a tree of row 5: 32 leaves and 31 places.
 #[test]
 fn spread_targets(rt: HostRuntime) -> Result<(), Fail> {
