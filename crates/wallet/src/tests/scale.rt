@@ -1,5 +1,5 @@
-// Blocks of 32 targets in a forest of 2147483648 slots, with eight coins on the shelf. The compression counts: each value carries how many
-// images were worked out for it, and how many a block asks for was worked out by hand.
+// Blocks of 32 targets in a forest of 2147483648 slots, with eight coins on the shelf, each in a slot that differs from a target's in one
+// bit. The compression counts: each value carries how many images were worked out for it. How many a block asks for was worked out by hand.
 ghost use Rattle.std.specs.Prelude.{◌≡◌, ◌+◌, ◌*◌, ◌%◌, ◌^◌, true};
 ghost use Rattle.std.proofs.Common.{arith};
 ghost use Rattle.utreexo.specs.declared.types.Input.TheVariants.{Leaf, Pair};
@@ -105,7 +105,7 @@ fn write_block(slots: &[u32; 32], added: &[Coin], out: &mut [u8]) -> Result<usiz
     compose(&positions, &spent, &hashes[..needed], added, out)
 }
 
-// What a block claims: of its needed places that the n-th has the hash of number n; and of the covered ones.
+// What a block claims: the hash of number n of its needed place of number n, and of the covered places what `after` says.
 #[derive(Drop)]
 struct Claims {
     needed: Needed,
