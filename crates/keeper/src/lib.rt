@@ -2,6 +2,7 @@
 #![tactic(auto)]
 
 pub mod bare;
+pub mod read;
 pub mod run;
 
 ghost use Rattle.std.specs.Prelude.{◌≡◌, ℕ, ◌^◌, ◌<◌, ◌≤◌, length};
