@@ -12,13 +12,14 @@ ghost use Rattle.utreexo.specs.Collection.{own_input, slot_at, coin_at, target_l
 ghost use Rattle.place.specs.Nodes.{node_of, inside, number_at};
 ghost use Rattle.own.specs.Answers.{input_of, input_in, slot_in, coin_in, or_zero};
 
-use crate::walk::{value_over, walk};
+use crate::walk::walk;
 use compression::Compression;
 use keeper::Keeper;
+use keeper::read::value_over;
 use keeper::run::Run;
-use place::{Node, has_tree, locate, tree_place};
+use place::{Node, has_tree, tree_place};
 use std::array;
-use utreexo::types::{Coin, Input, Position, Slot, Value};
+use utreexo::types::{Coin, Input, Slot, Value};
 
 // What stands at a node of a forest: a coin, with its slot, or two parts with their values.
 #[derive(Clone, Copy, PartialEq, Eq, Debug)]
@@ -92,18 +93,8 @@ pub fn fresh_at<C: Compression, K: Keeper<C>>(keeper: &K, node: Node) -> Value
     or_zero(value_at::<C, K>(keeper, node))
 }
 
-// The same by position.
-pub fn fresh_value<C: Compression, K: Keeper<C>>(keeper: &K, position: Position) -> Value
-    ensures { result ≡ fresh_value C.Compression.image (K.Keeper.slots keeper.now) position.number }
-{
-    match locate(keeper.count(), position) {
-        Some(node) => fresh_at::<C, K>(keeper, node),
-        None => Value::default(),
-    }
-}
-
 // The root of the tree of a row; None too where there is no such tree.
-pub fn root<C: Compression, K: Keeper<C>>(keeper: &K, row: u8) -> Option<Value>
+fn root<C: Compression, K: Keeper<C>>(keeper: &K, row: u8) -> Option<Value>
     ensures { result ≡ root_of C.Compression.image (K.Keeper.slots keeper.now) row }
 {
     let count = keeper.count();

@@ -88,14 +88,10 @@ fn check_half_blank<K: Keeper<Tally>>(rt: &impl Abort, keeper: &K) {
     check_pair::<K>(rt, keeper, 2, 0, 2, 3);
     check_pair::<K>(rt, keeper, 2, 1, 4, 5);
     check_pair::<K>(rt, keeper, 3, 0, 21, 37);
-    assert_eq!(rt;
-        fresh_value::<Tally, K>(keeper, Position { number: 12 }),
-        value(21)
-    );
-    assert_eq!(rt;
-        fresh_value::<Tally, K>(keeper, Position { number: 4 }),
-        value(0)
-    );
+    let node = Node { row: 2, place: 0 };
+    assert_eq!(rt; fresh_at::<Tally, K>(keeper, node), value(21));
+    let node = Node { row: 0, place: 4 };
+    assert_eq!(rt; fresh_at::<Tally, K>(keeper, node), value(0));
     assert_eq!(rt; roots::<Tally, K>(keeper)[3], Some(value(248)));
 }
 

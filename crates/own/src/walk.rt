@@ -1,14 +1,16 @@
 // Down from the root of a tree to what stands at a node.
-ghost use Rattle.std.specs.Prelude.{◌≡◌, ◌/◌, ◌^◌, ◌<◌, length, None, slice_index_or};
+ghost use Rattle.std.specs.Prelude.{◌≡◌, ◌-◌, ◌*◌, ◌+◌, ◌/◌, ◌^◌, ◌<◌, length};
 ghost use Rattle.utreexo.specs.Forest.{value_over};
 ghost use Rattle.own.specs.Answers.{Finds};
+ghost use Rattle.own.specs.Steps.{step_by};
 
 use crate::Own;
 use compression::Compression;
 use keeper::Keeper;
+use keeper::read::{coin_in, value_over};
 use keeper::run::Run;
 use place::{Node, tree_place, tree_row};
-use utreexo::types::{Coin, Slot, Value};
+use utreexo::types::{Slot, Value};
 
 // What stands at a node, and the run of slots over which it stands.
 #[derive(Clone, Copy)]
@@ -17,66 +19,85 @@ pub(crate) struct Found {
     pub(crate) own: Own,
 }
 
-// The value over a run within the count; None if it is blank.
-pub(crate) fn value_over<C: Compression, K: Keeper<C>>(keeper: &K, run: Run) -> Option<Value>
-    requires { run.place < length (K.Keeper.slots keeper.now) / 2 ^ run.row }
-    ensures { result ≡ value_over C.Compression.image (K.Keeper.slots keeper.now) run.row run.place }
-{
-    keeper.value(run).ok().flatten()
+// Where the way down to a node is: at a run, with so many bits of the node's place not used yet.
+#[derive(Clone, Copy)]
+pub(crate) struct Way {
+    pub(crate) run: Run,
+    pub(crate) bits: u8,
 }
 
-// The coin of a slot; None if it is blank, and past the count.
-fn coin_in<C: Compression, K: Keeper<C>>(keeper: &K, slot: Slot) -> Option<Coin>
-    ensures { result ≡ slice_index_or (K.Keeper.slots keeper.now) slot.number None }
-{
-    keeper.coin(slot).ok().flatten()
+// What the halves of the run tell: that nothing stands at the node, that their pair does, or by which half the way goes on.
+#[derive(Clone, Copy)]
+pub(crate) enum Step {
+    Nothing,
+    Pair { left: Value, right: Value },
+    On(Way),
 }
 
-// What stands at a node. Where one half of a run is blank the other takes its place, and no bit of the node's place is used; where both
-// are not, the next bit tells which. One question a row would not do: the answer for one half does not tell whether the other is blank.
-// So it is two a row, and no value is worked out here.
+impl Way {
+    // Where one half of a run is blank the other takes its place, and no bit of the node's place is used; where both are not, the next bit
+    // tells which. One question a row would not do: the answer for one half does not tell whether the other is blank. So it is two a row, and
+    // no value is worked out here.
+    fn step<C: Compression, K: Keeper<C>>(self, keeper: &K, place: u32) -> Step
+        requires high { 0 < self.run.row }
+        requires within { self.run.place < length (K.Keeper.slots keeper.now) / 2 ^ self.run.row }
+        requires few { self.bits < 33 }
+        ensures { result ≡ step_by C.Compression.image (K.Keeper.slots keeper.now) self place }
+    {
+        let (left, right) = self.run.halves();
+        let values = (
+            value_over::<C, K>(keeper, left),
+            value_over::<C, K>(keeper, right),
+        );
+        match values {
+            (None, None) => Step::Nothing,
+            (Some(_), None) => Step::On(Way { run: left, ..self }),
+            (None, Some(_)) => Step::On(Way { run: right, ..self }),
+            (Some(left), Some(right)) if self.bits == 0 => Step::Pair { left, right },
+            (Some(_), Some(_)) => {
+                let bits = self.bits - 1;
+                let half = (place >> bits) % 2;
+                let run = if half == 0 { left } else { right };
+                Step::On(Way { run, bits })
+            }
+        }
+    }
+}
+
+// What stands at a node.
 pub(crate) fn walk<C: Compression, K: Keeper<C>>(keeper: &K, node: Node) -> Option<Found>
     ensures { Finds C.Compression.image (K.Keeper.slots keeper.now) node.row node.place result }
 {
     let count = keeper.count();
     let row = tree_row(count, node)?;
-    let mut bits = row - node.row;
-    let mut run = Run {
-        row,
-        place: tree_place(count, row) as u64,
+    let mut way = Way {
+        run: Run {
+            row,
+            place: tree_place(count, row) as u64,
+        },
+        bits: row - node.row,
     };
-    while run.row > 0 {
-        let (left, right) = run.halves();
-        let values = (
-            value_over::<C, K>(keeper, left),
-            value_over::<C, K>(keeper, right),
-        );
-        run = match values {
-            (None, None) => return None,
-            (Some(_), None) => left,
-            (None, Some(_)) => right,
-            (Some(l), Some(r)) if bits == 0 => {
+    while way.run.row > 0 {
+        match way.step::<C, K>(keeper, node.place) {
+            Step::Nothing => return None,
+            Step::Pair { left, right } => {
                 return Some(Found {
-                    run,
-                    own: Own::Pair { left: l, right: r },
+                    run: way.run,
+                    own: Own::Pair { left, right },
                 });
             }
-            (Some(_), Some(_)) => {
-                bits -= 1;
-                let half = (node.place >> bits) % 2;
-                if half == 0 { left } else { right }
-            }
-        };
+            Step::On(next) => way = next,
+        }
     }
-    if bits > 0 {
+    if way.bits > 0 {
         return None;
     }
     let slot = Slot {
-        number: run.place as u32,
+        number: way.run.place as u32,
     };
     let coin = coin_in::<C, K>(keeper, slot)?;
     Some(Found {
-        run,
+        run: way.run,
         own: Own::Leaf { slot, coin },
     })
 }
