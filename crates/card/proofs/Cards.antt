@@ -1,8 +1,6 @@
 -- A live slot's record, and its card.
-use Rattle.std.proofs.Common.{◌≡◌, ℕ, ◌^◌, ◌<◌, ◌≤◌, Bool, true, false, cond, not, ltb, [], ◌∷◌, length, get_or, is_some, Some, None, Ok, Err, Option, Result, ◌||◌, ap₂, sym, refl, ap, ◌∙◌, arith}
+use Rattle.std.proofs.Common.{◌≡◌, ℕ, ◌^◌, ◌<◌, ◌≤◌, true, false, cond, not, [], ◌∷◌, length, get_or, is_some, Some, None, Option, ◌||◌, ap₂, sym, refl, ap, ◌∙◌, arith}
 use Rattle.std.proofs.lemmas.Bool.{le-ltb}
-use Rattle.refusal.specs.declared.Refusal.{Refusal}
-use Rattle.refusal.specs.declared.Refusal.TheVariants.{NotFound}
 use Rattle.utreexo.specs.declared.types.Coin.{Coin}
 use Rattle.utreexo.specs.declared.types.Position.{Position}
 use Rattle.utreexo.specs.Bytes.{Bytes}
@@ -15,16 +13,7 @@ use Rattle.laws.proofs.Logic.{never}
 use Rattle.laws.proofs.Positions.{over_tree}
 use Rattle.laws.proofs.Forest.{row_of_tree}
 use Rattle.laws.proofs.Live.{live_over, slot_held_live_at}
-use Rattle.keeper.specs.Calls.{coin_read}
 use Rattle.place.specs.Nodes.{inside, number_of, position_at}
-
--- a coin that was read is the slot's
-pub coin_was_read : (s : Slots) (i : ℕ) (c : Coin) → coin_read s i ≡ Ok (Some c) → get_or s i None ≡ Some c
-coin_was_read s i c e = go (ltb i (length s)) e
-  where
-    go : (b : Bool) → cond {A = Result (Option Coin) Refusal} b (Ok (get_or s i None)) (Err NotFound) ≡ Ok (Some c) → get_or s i None ≡ Some c
-    go true q = cc
-    go false q = absurd (let z : ⊥ = cc in z)
 
 -- the record of a live slot
 pub held_found : (image : Image) (s : Slots) (i : ℕ) (c : Coin) (k : Struck) → get_or s i None ≡ Some c → k ≡ slot_struck image s i

@@ -1,5 +1,5 @@
 -- Striking the bits of a slot's number, from the row of its tree down.
-use Rattle.std.proofs.Common.{◌≡◌, ℕ, suc, ◌+◌, ◌-◌, ◌*◌, ◌/◌, ◌%◌, ◌^◌, ◌<◌, ◌≤◌, true, List, [], ◌∷◌, length, drop, Some, None, Option, sym, refl, ap, ◌∙◌, arith, add-one, length-drop}
+use Rattle.std.proofs.Common.{◌≡◌, ℕ, suc, ◌+◌, ◌-◌, ◌*◌, ◌/◌, ◌%◌, ◌^◌, ◌<◌, ◌≤◌, List, [], ◌∷◌, length, drop, Some, None, Option, sym, refl, ap, ◌∙◌, arith, add-one, length-drop}
 use Rattle.std.proofs.lemmas.List.{drop_more, drop_all}
 use Rattle.utreexo.specs.declared.types.Value.{Value}
 use Rattle.utreexo.specs.Values.{Image}
@@ -11,9 +11,6 @@ use Rattle.laws.proofs.Strikes.{sibling_sib, shr_next}
 use Rattle.laws.proofs.Tops.{Over}
 use Rattle.laws.proofs.Positions.{tree_over, over_in_row}
 use Rattle.laws.proofs.Live.{over_whole, top_over}
-use Rattle.keeper.specs.Calls.{run_within}
-use Rattle.keeper.proofs.Runs.{run_test}
-use Rattle.std.proofs.lemmas.Bool.{lt-ltb}
 
 -- the place is no larger than the number, and each bit is struck out or kept
 bit_low : (x : Option Value) (o : ℕ) (k : Struck) → k.place ≤ o / 2 → (keep_bit o x k).place ≤ o
@@ -71,7 +68,7 @@ module _ (image : Image) (s : Slots) (slot tree : ℕ) where
   struck_whole = ap (strike sibs) (omega arith)
 
 -- a sibling run of a slot below the row of its tree lies within the count
-pub sibling_within : (n i k j : ℕ) → tree_of n (at_node 0 i) ≡ Some k → j < k → run_within n j (sibling (i / 2 ^ j)) ≡ true
+pub sibling_within : (n i k j : ℕ) → tree_of n (at_node 0 i) ≡ Some k → j < k → sibling (i / 2 ^ j) < n / 2 ^ j
 sibling_within n i k j e l =
     let v : Over n 0 i k = tree_over n 0 i k e in
     let d = k - (j + 1) in
@@ -79,4 +76,4 @@ sibling_within n i k j e l =
     ap (up d) (ap (λ x. x / 2) (sibling_sib (i / 2 ^ j)) ∙ sib_half (i / 2 ^ j)) ∙ ap (λ x. up (suc d) x) (sym (up_shr j i)) ∙ sym (up_add j (suc d) k i (omega arith)) in
     let w : Over n j (sibling (i / 2 ^ j)) k = top_over n k (up k i) (suc d) j (sibling (i / 2 ^ j)) (over_whole n i k v) (omega arith) q in
     let h = over_in_row n j (sibling (i / 2 ^ j)) k w in
-    sym (run_test n j (sibling (i / 2 ^ j))) ∙ lt-ltb (sibling (i / 2 ^ j)) (n / 2 ^ j) (let z = up_shr j n in omega arith)
+    let z = up_shr j n in omega arith

@@ -13,6 +13,7 @@ use crate::strike::{Struck, strike};
 use block::compose::compose;
 use compression::Compression;
 use keeper::Keeper;
+use keeper::read::coin_in;
 use refusal::Refusal;
 use utreexo::types::{Coin, Slot};
 
@@ -27,9 +28,7 @@ struct Live {
 fn held<C: Compression, K: Keeper<C>>(keeper: &K, slot: Slot) -> Option<Live>
     ensures { held_in result ≡ held_at C.Compression.image (K.slots keeper.now) slot.number }
 {
-    let Ok(Some(coin)) = keeper.coin(slot) else {
-        return None;
-    };
+    let coin = coin_in::<C, K>(keeper, slot)?;
     let struck = strike::<C, K>(keeper, slot)?;
     Some(Live { coin, struck })
 }

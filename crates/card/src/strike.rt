@@ -1,12 +1,12 @@
 // Where a slot's coin stands, by striking out the bits of its number.
-ghost use Rattle.std.specs.Prelude.{◌≡◌, ◌/◌, ◌^◌, MatchOption, None, nat_lt, false, length, true};
-ghost use Rattle.utreexo.specs.Forest.{slot_struck, value_over};
-ghost use Rattle.keeper.specs.Calls.{run_within};
+ghost use Rattle.std.specs.Prelude.{◌≡◌, MatchOption, nat_lt, false, length};
+ghost use Rattle.utreexo.specs.Forest.{slot_struck};
 ghost use Rattle.card.specs.Held.{struck_of};
 
 use arrayvec::ArrayVec;
 use compression::Compression;
 use keeper::Keeper;
+use keeper::read::value_over;
 use keeper::run::Run;
 use place::{Node, runs, sibling_place, slot_tree_row};
 use utreexo::types::{Slot, Value};
@@ -16,14 +16,6 @@ use utreexo::types::{Slot, Value};
 pub(crate) struct Struck {
     pub(crate) node: Node,
     pub(crate) path: ArrayVec<Value, 32>,
-}
-
-// The value over a run that is known to lie within the count.
-fn value_within<C: Compression, K: Keeper<C>>(keeper: &K, run: Run) -> Option<Value>
-    requires { run_within (length (K.slots keeper.now)) run.row run.place ≡ true }
-    ensures { result ≡ value_over C.Compression.image (K.slots keeper.now) run.row run.place }
-{
-    keeper.value(run).unwrap_or(None)
 }
 
 // Walks down the sibling runs of a slot, the largest first, so that each bit of the slot's number is struck out or kept in front of those
@@ -43,7 +35,7 @@ pub(crate) fn strike<C: Compression, K: Keeper<C>>(keeper: &K, slot: Slot) -> Op
             row,
             place: sibling_place(place) as u64,
         };
-        match value_within::<C, K>(keeper, sibling) {
+        match value_over::<C, K>(keeper, sibling) {
             Some(value) => {
                 node.place = 2 * node.place + place % 2;
                 path.insert(0, value);

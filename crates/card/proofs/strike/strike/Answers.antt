@@ -1,6 +1,5 @@
-use Rattle.std.proofs.Common.{◌≡◌, length, ◌∷◌, ◌+◌, ◌-◌, ◌*◌, ◌/◌, ◌^◌, ◌%◌, Some, None, sym, ap, ◌∙◌, ap₂, arith}
+use Rattle.std.proofs.Common.{◌≡◌, length, ◌+◌, ◌-◌, ◌*◌, ◌/◌, ◌^◌, ◌%◌, Some, None, sym, ap, ◌∙◌, ap₂, arith}
 use Rattle.utreexo.specs.Forest.{Struck, at_node, tree_of, tree_row, sibling, value_over, keep_bit, strike, siblings_of}
-use Rattle.keeper.specs.Calls.{run_within}
 use Rattle.card.proofs.Striking.{struck_from, struck_top, struck_next, struck_bounds, struck_whole, sibling_within}
 use Rattle.card.proofs.strike.strike.Goals as goal
 
@@ -12,16 +11,6 @@ loop-row-init g c =
       struck_top image s c.args.slot.number c.in_ok-tree.tree
           ∙ ap₂ (λ o p. record { row = 0; place = o; path = p }) (sym c.runs.ensures.value) (sym c.new-path.ensures),
     )
-
-pub value_within-requires : goal.value_within-requires
-value_within-requires g c =
-    let image = g.C.Compression.image in
-    let s = g.K.Keeper.slots c.args.keeper.now in
-    let w = c.args.slot.number in
-    let tree = c.in_ok-tree.tree in
-    let j = c.loop-row.row - 1 in
-    let e : tree_of (length s) (at_node 0 w) ≡ Some tree = sym (c.in_ok-tree.ensures.value ∙ ap (λ n. tree_of n (at_node 0 w)) c.count.ensures) in
-    ap (run_within (length s) j) (c.sibling_place.ensures ∙ ap sibling c.runs-place.ensures.value) ∙ sibling_within (length s) w tree j e (omega arith)
 
 pub overflow_mul-node : goal.overflow_mul-node
 overflow_mul-node g c =
@@ -72,7 +61,10 @@ loop-row-preserved-in-Some g c =
     let j = c.loop-row.row - 1 in
     let o = w / 2 ^ j in
     let before : Struck = record { row = c.loop-row.node.row; place = c.loop-row.node.place; path = c.loop-row.path.items } in
-    let v = c.value_within.ensures ∙ ap (value_over image s j) (c.sibling_place.ensures ∙ ap sibling c.runs-place.ensures.value) in
+    let tree_is : tree_of (length s) (at_node 0 w) ≡ Some tree = sym (c.in_ok-tree.ensures.value ∙ ap (λ n. tree_of n (at_node 0 w)) c.count.ensures) in
+    let place = c.sibling_place.ensures ∙ ap sibling c.runs-place.ensures.value in
+    let l = sibling_within (length s) w tree j tree_is (omega arith) in
+    let v = c.value_over.ensures.within (omega (arith, place)) ∙ ap (value_over image s j) place in
     let e : struck_from image s w tree (j + 1) ≡ before = ap (struck_from image s w tree) (omega arith) ∙ c.loop-row.invariant.1 in (
       omega arith,
       struck_next image s w tree j (omega arith) ∙ ap₂ (keep_bit o) (sym v ∙ c.in-Some.is) e
@@ -88,7 +80,10 @@ loop-row-preserved g c =
     let j = c.loop-row.row - 1 in
     let o = w / 2 ^ j in
     let before : Struck = record { row = c.loop-row.node.row; place = c.loop-row.node.place; path = c.loop-row.path.items } in
-    let v = c.value_within.ensures ∙ ap (value_over image s j) (c.sibling_place.ensures ∙ ap sibling c.runs-place.ensures.value) in
+    let tree_is : tree_of (length s) (at_node 0 w) ≡ Some tree = sym (c.in_ok-tree.ensures.value ∙ ap (λ n. tree_of n (at_node 0 w)) c.count.ensures) in
+    let place = c.sibling_place.ensures ∙ ap sibling c.runs-place.ensures.value in
+    let l = sibling_within (length s) w tree j tree_is (omega arith) in
+    let v = c.value_over.ensures.within (omega (arith, place)) ∙ ap (value_over image s j) place in
     let e : struck_from image s w tree (j + 1) ≡ before = ap (struck_from image s w tree) (omega arith) ∙ c.loop-row.invariant.1 in
     (omega arith, struck_next image s w tree j (omega arith) ∙ ap₂ (keep_bit o) (sym v ∙ c.in-None.is) e)
 
