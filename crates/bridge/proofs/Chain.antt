@@ -33,10 +33,12 @@ module _ (image : Image) (capacity : ℕ) (s : Slots) (bs : Bytes) where
   abbrev all_causes : List Cause
   all_causes = bridge_take_causes image capacity s bs
 
+  abbrev later : List Cause
+  later =
+      cause 16 (any (dead image s) ts) ∷ cause 17 (not (same_values b.hashes (fresh image s ts))) ∷ cause 18 (ltb capacity (length s + length b.coins)) ∷ []
+
   abbrev last : List Cause
-  last =
-      tail (ltb most_slots (length s + length b.coins)) (any (dead image s) ts) (not (same_values b.hashes (fresh image s ts)))
-      (ltb capacity (length s + length b.coins))
+  last = cause 11 (ltb most_slots (length s + length b.coins)) ∷ later
 
   -- of a readable block, whose bytes are x, with n for the count
   module _ (read : refusal (read_causes bs) ≡ None) (x : Bytes) (same : x ≡ bs) (n : ℕ) (count : n ≡ length s) where
@@ -74,8 +76,10 @@ module _ (image : Image) (capacity : ℕ) (s : Slots) (bs : Bytes) where
         any_dead : (r : Bool) → any (dead image s) (placed t) ≡ r → any (dead image s) ts ≡ r
         any_dead r e = ap (any (dead image s)) (sym placed_so) ∙ e
 
-        pub too_many : most_slots < sum → refusal all_causes ≡ Some 11
-        too_many l = with_last true _ _ _ (over_most true (lt-ltb most_slots sum l)) refl refl refl
+        pub too_many : (k : ℕ) → refusal (cause 11 (ltb most_slots sum) ∷ []) ≡ Some k → refusal all_causes ≡ Some k
+        too_many k e =
+            after ∙ refusal_some (cause 11 (ltb most_slots (length s + length b.coins)) ∷ []) later k
+            (ap (λ n. refusal (cause 11 (ltb most_slots n) ∷ [])) (sym sum_so) ∙ e)
 
         module _ (few : sum ≤ most_slots) where
           pub not_live : any (dead image s) (placed t) ≡ true → refusal all_causes ≡ Some 16

@@ -28,7 +28,7 @@ use Rattle.laws.proofs.Count.{needed_few}
 use Rattle.laws.proofs.Members.{any_append}
 use Rattle.targets.specs.declared.spend.Spend.{Spend}
 use Rattle.targets.specs.Spends.{target_of, targets}
-use Rattle.undo.specs.declared.record.Blanked.{Blanked}
+use Rattle.undo.specs.declared.mark.Blanked.{Blanked}
 use Rattle.undo.specs.Marks.{target_entry}
 
 module _ (image : Image) (s : Slots) where

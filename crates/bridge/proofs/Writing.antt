@@ -1,6 +1,6 @@
 -- What a written block spends, and the chain of checks before it is written.
 use Rattle.std.proofs.Common.{◌≡◌, ℕ, ◌+◌, ◌<◌, ◌≤◌, Bool, true, false, not, ◌||◌, eqb, ltb, List, [], ◌∷◌, ◌++◌, length, get_or, take, is_some, Some, None, Option, Ok, Err, Result, IsErrAnd, sym, refl, ap, ◌∙◌, ap₂, arith}
-use Rattle.std.proofs.lemmas.Bool.{lt-ltb, le-ltb, ltb-false, eq-eqb, or_parts}
+use Rattle.std.proofs.lemmas.Bool.{le-ltb, ltb-false, eq-eqb, or_parts}
 use Rattle.std.proofs.lemmas.List.{take_more, map-append, length-map}
 use Rattle.std.specs.List.{list_any}
 use Rattle.utreexo.specs.declared.types.Coin.{Coin}
@@ -90,8 +90,10 @@ module _ (image : Image) (s : Slots) where
         with_last : (a d : Bool) → ltb most_slots (length s + length cs) ≡ a → any (lacks image s) ps ≡ d → refusal all_causes ≡ refusal (last a d)
         with_last a d e f = whole ∙ refusal_none mid ends (sym places ∙ none) ∙ ap₂ (λ a d. refusal (last a d)) e f
 
-        pub too_many : most_slots < n + length cs → refusal all_causes ≡ Some 11
-        too_many l = with_last true _ (lt-ltb most_slots (length s + length cs) (omega arith)) refl
+        pub too_many : (k : ℕ) → refusal (cause 11 (ltb most_slots (n + length cs)) ∷ []) ≡ Some k → refusal all_causes ≡ Some k
+        too_many k e =
+            whole ∙ refusal_none mid ends (sym places ∙ none) ∙ refusal_some (cause 11 (ltb most_slots (length s + length cs)) ∷ []) (cause 16 (any (lacks image s) ps) ∷ []) k
+            (ap (λ n. refusal (cause 11 (ltb most_slots (n + length cs)) ∷ [])) (sym count) ∙ e)
 
         pub missing : n + length cs ≤ most_slots → any (lacks image s) ps ≡ true → refusal all_causes ≡ Some 16
         missing l e = with_last false true (le-ltb most_slots (length s + length cs) (omega arith)) e

@@ -11,14 +11,14 @@ use Rattle.utreexo.specs.Values.{Image}
 use Rattle.utreexo.specs.Collection.{held_at, card_bytes}
 use Rattle.utreexo.specs.Outcomes.{answered, Writes}
 use Rattle.utreexo.specs.declared.types.Coin.{Coin}
-use Rattle.undo.specs.Marks.{marks}
+use Rattle.undo.specs.Marks.{marks_of}
 use Rattle.compression.specs.declared.Compression.{Ghosts as CompressionGhosts}
 use Rattle.keeper.specs.declared.Keeper.{Ghosts as KeeperGhosts}
 use Rattle.bridge.specs.declared.Bridge.{Bridge}
 
 -- the bridge of the definitions, by what its keeper means
 abbrev pub bridge_of : {C K : Type 0} {c : CompressionGhosts C} {k : KeeperGhosts K C} → Bridge C K c k → Model
-bridge_of {k} b = record { capacity = k.limit b.keeper; slots = k.slots b.keeper; marks = marks b.undos }
+bridge_of {k} b = record { capacity = k.limit b.keeper; slots = k.slots b.keeper; marks = marks_of b.marks }
 
 -- the answer of a call that writes nothing
 abbrev pub outcome : Result (Unit {0}) Refusal → Answer

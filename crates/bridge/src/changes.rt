@@ -11,8 +11,8 @@ use keeper::Keeper;
 use refusal::Refusal;
 use std::marker::PhantomData;
 use undo::changes::append_all;
-use undo::record::UndoRecord;
-use undo::undos::Undos;
+use undo::mark::Mark;
+use undo::marks::Marks;
 
 impl<C: Compression, K: Keeper<C>> Bridge<C, K> {
     // A bridge of the keeper's slots, with no mark.
@@ -21,7 +21,7 @@ impl<C: Compression, K: Keeper<C>> Bridge<C, K> {
     {
         Bridge {
             keeper,
-            undos: Undos::new(),
+            marks: Marks::new(),
             compression: PhantomData,
         }
     }
@@ -31,10 +31,10 @@ impl<C: Compression, K: Keeper<C>> Bridge<C, K> {
         ensures { bridge_step C.Compression.image (bridge_take block.now) (bridge_of self.old) ≡ step (outcome result) (bridge_of self.new) }
     {
         let taking = judge::<C, K>(&self.keeper, block)?;
-        let mark = UndoRecord::new(self.keeper.count(), taking.blanked.as_slice());
+        let mark = Mark::new(self.keeper.count(), taking.blanked.as_slice());
         mark.blank::<C, K>(&mut self.keeper);
         append_all::<C, K>(&mut self.keeper, taking.coins.as_slice());
-        self.undos.push(mark);
+        self.marks.push(mark);
         Ok(())
     }
 
@@ -42,7 +42,7 @@ impl<C: Compression, K: Keeper<C>> Bridge<C, K> {
     pub fn take_back(&mut self) -> Result<(), Refusal>
         ensures { bridge_step C.Compression.image bridge_take_back (bridge_of self.old) ≡ step (outcome result) (bridge_of self.new) }
     {
-        let Some(mark) = self.undos.pop() else {
+        let Some(mark) = self.marks.pop() else {
             return Err(Refusal::NoMark);
         };
         mark.undo::<C, K>(&mut self.keeper);

@@ -11,13 +11,14 @@ ghost use Rattle.bridge.specs.Taking.{Takes};
 
 use crate::fresh::fresh_hashes;
 use arrayvec::ArrayVec;
+use block::checks::check_limit;
 use compression::Compression;
 use keeper::Keeper;
 use own::live_slot;
 use proof::readable::Block;
 use refusal::Refusal;
 use targets::placed::Targets;
-use undo::record::Blanked;
+use undo::mark::Blanked;
 use utreexo::record::Record;
 use utreexo::types::{Coin, Value};
 
@@ -66,12 +67,10 @@ pub(crate) fn judge<C: Compression, K: Keeper<C>>(
     ensures { Judged (bridge_take_causes C.Compression.image (K.limit keeper.now) (K.slots keeper.now) bytes.now) (Takes C.Compression.image (K.slots keeper.now) bytes.now) result }
 {
     let block = Block::read(bytes)?;
-    let targets = block.place(keeper.count())?;
+    let count = keeper.count();
+    let targets = block.place(count)?;
     let coins = block.coins();
-    let count = keeper.count() as usize + coins.len();
-    if count > u32::MAX as usize {
-        return Err(Refusal::TooManySlots);
-    }
+    check_limit(count, coins.len())?;
     let Some(blanked) = live_slots::<C, K>(keeper, &targets) else {
         return Err(Refusal::NotFound);
     };
@@ -81,7 +80,7 @@ pub(crate) fn judge<C: Compression, K: Keeper<C>>(
     ) {
         return Err(Refusal::HashNotFresh);
     }
-    if count > keeper.capacity() as usize {
+    if count as usize + coins.len() > keeper.capacity() as usize {
         return Err(Refusal::OverCapacity);
     }
     Ok(Taking { blanked, coins })

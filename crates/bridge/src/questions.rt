@@ -12,6 +12,7 @@ use crate::Bridge;
 use challenge::verdict::Verdict;
 use compression::Compression;
 use keeper::Keeper;
+use keeper::read::coin_in;
 use refusal::Refusal;
 use utreexo::types::{Coin, Slot, Value};
 
@@ -34,7 +35,7 @@ impl<C: Compression, K: Keeper<C>> Bridge<C, K> {
     fn holds(&self, slot: Slot, coin: Coin) -> bool
         ensures { IsTrue result ↔ (slice_index_or (K.slots self.now.keeper) slot.number None ≡ Some coin) }
     {
-        self.keeper.coin(slot).ok().flatten() == Some(coin)
+        coin_in::<C, K>(&self.keeper, slot) == Some(coin)
     }
 
     // Some live slot that holds the coin; None exactly if there is none.

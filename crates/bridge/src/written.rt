@@ -9,6 +9,7 @@ ghost use Rattle.bridge.specs.Spends.{coin_having, coin_or, lacks, Spends};
 use crate::Bridge;
 use crate::fresh::fresh_hashes;
 use arrayvec::ArrayVec;
+use block::checks::check_limit;
 use block::compose::compose;
 use compression::Compression;
 use keeper::Keeper;
@@ -70,10 +71,9 @@ fn spend<C: Compression, K: Keeper<C>>(
         return Err(Refusal::OverLimit);
     }
     let spent = coins_at::<C, K>(keeper, positions);
-    let targets = Targets::place(keeper.count(), positions, spent.as_slice())?;
-    if keeper.count() as usize + coins.len() > u32::MAX as usize {
-        return Err(Refusal::TooManySlots);
-    }
+    let count = keeper.count();
+    let targets = Targets::place(count, positions, spent.as_slice())?;
+    check_limit(count, coins.len())?;
     if positions
         .iter()
         .any(|position| lacks::<C, K>(keeper, *position))

@@ -16,17 +16,18 @@ use Rattle.utreexo.specs.Bridge.{Undo, undone, undo_of as undo_for}
 use Rattle.laws.proofs.Logic.{iff_bool, true_false, eqb_cases, EqbCases}
 use Rattle.laws.proofs.Order.{Mem}
 use Rattle.laws.proofs.Members.{map_ext, filter_mem, all_mem}
-use Rattle.laws.proofs.Ranges.{mem_below}
+use Rattle.laws.proofs.Ranges.{mem_below, get_or_below, length_map_below}
 use Rattle.laws.proofs.Live.{LiveAt, target_is, slot_make, slot_has_is, slot_has_make, live_once}
 use Rattle.laws.proofs.Slots.{left, length_left, left_at, slot_coin}
 use Rattle.promise.proofs.Undone.{undone_after}
-use Rattle.undo.specs.declared.record.Blanked.{Blanked}
-use Rattle.undo.specs.declared.record.UndoRecord.{UndoRecord}
-use Rattle.undo.specs.Marks.{names, coin_there, listed, blanks, undo_of, target_entry}
+use Rattle.undo.specs.declared.mark.Blanked.{Blanked}
+use Rattle.undo.specs.declared.mark.Mark.{Mark}
+use Rattle.undo.specs.Marks.{names, coin_there, listed, blanked, undo_of, target_entry}
+use Rattle.undo.proofs.Loops.{blanks}
 use Rattle.undo.proofs.Undoing.{here_named, here_coin, past_named, past_coin, Undoable}
 
 -- what blanking makes of one slot
-pub length_blanks : (bs : List Blanked) (s : Slots) → length (blanks bs s) ≡ length s
+length_blanks : (bs : List Blanked) (s : Slots) → length (blanks bs s) ≡ length s
 length_blanks [] s = refl
 length_blanks (b ∷ bs) s = length_blanks bs (set s b.slot.number None) ∙ length-set s b.slot.number None
 
@@ -36,7 +37,7 @@ blank_here s i = elim (cases_lt i (length s)) [
   | inr l ↦ get_or_past (set s i None) i None (let e = length-set s i None in omega arith)
 ]
 
-pub blanks_at : (bs : List Blanked) (s : Slots) (i : ℕ) → get_or (blanks bs s) i None ≡ cond (names bs i) None (get_or s i None)
+blanks_at : (bs : List Blanked) (s : Slots) (i : ℕ) → get_or (blanks bs s) i None ≡ cond (names bs i) None (get_or s i None)
 blanks_at [] s i = refl
 blanks_at (b ∷ bs) s i = blanks_at bs (set s b.slot.number None) i ∙ elim (cases_eq i b.slot.number) [
   | inl q ↦
@@ -50,6 +51,13 @@ blanks_at (b ∷ bs) s i = blanks_at bs (set s b.slot.number None) i ∙ elim (c
     none_both : (t : Bool) → cond {A = Option Coin} t None None ≡ None
     none_both true = refl
     none_both false = refl
+
+pub blanks_so : (bs : List Blanked) (s : Slots) → blanks bs s ≡ blanked bs s
+blanks_so bs s =
+    let m = length_map_below (λ w. cond (names bs w) None (get_or s w None)) (length s) in
+    let n = length_blanks bs s in
+    ext_get_or None (blanks bs s) (blanked bs s) (n ∙ sym m)
+    (λ i l. blanks_at bs s i ∙ sym (get_or_below (λ w. cond (names bs w) None (get_or s w None)) None (length s) i (omega arith)))
 
 filter_ext : {A : Type 0} (p q : A → Bool) (xs : List A) → ((x : A) → p x ≡ q x) → filter p xs ≡ filter q xs
 filter_ext p q [] e = refl
@@ -110,22 +118,22 @@ module _ (image : Image) (s : Slots) (small : length s < 2 ^ 32) where
     ts = targets_of (length s) (entries b)
 
     -- the slots that are left
-    pub left_so : blanks (map entry ts) s ≡ left image s ts
-    left_so = ext_get_or None (blanks (map entry ts) s) (left image s ts) (length_blanks (map entry ts) s ∙ sym (length_left image s ts))
-        (λ i q. blanks_at (map entry ts) s i ∙ ap (λ z. cond z None (get_or s i None)) (named_spent ts i lives)
-        ∙ sym (left_at image s ts i (let e = length_blanks (map entry ts) s in omega arith)))
+    left_so : blanked (map entry ts) s ≡ left image s ts
+    left_so =
+        map_ext (λ w. cond (names (map entry ts) w) None (get_or s w None)) (λ w. cond (spent_slot image s ts w) None (get_or s w None)) (below (length s))
+        (λ w m. ap (λ z. cond z None (get_or s w None)) (named_spent ts w lives))
 
     -- the slots after the block, where the keeper has room
     pub slots_so : (limit : ℕ) → length s + length (entries b).coins ≤ limit
-        → take limit (blanks (map entry ts) s ++ map (λ c. Some c) (entries b).coins) ≡ slots_after image b s
+        → take limit (blanked (map entry ts) s ++ map (λ c. Some c) (entries b).coins) ≡ slots_after image b s
     slots_so limit room =
-        take_all limit (blanks (map entry ts) s ++ map (λ c. Some c) (entries b).coins)
-        (let x = length-append (blanks (map entry ts) s) (map (λ c. Some c) (entries b).coins) in
-        let y = length_blanks (map entry ts) s in
+        ap (λ z. take limit (z ++ map (λ c. Some c) (entries b).coins)) left_so
+        ∙ take_all limit (left image s ts ++ map (λ c. Some c) (entries b).coins)
+        (let x = length-append (left image s ts) (map (λ c. Some c) (entries b).coins) in
+        let y = length_left image s ts in
         let z = length-map (entries b).coins (λ c. Some c) in omega arith)
-        ∙ ap (λ z. z ++ map (λ c. Some c) (entries b).coins) left_so
 
-    module _ (r : UndoRecord) (count : r.count ≡ length s) (lists : listed r ≡ map entry ts) where
+    module _ (r : Mark) (count : r.count ≡ length s) (lists : listed r ≡ map entry ts) where
       -- the mark
       spent_so : (undo_of r).spent ≡ slots_named image s (entries b)
       spent_so =

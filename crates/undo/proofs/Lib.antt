@@ -1,3 +1,4 @@
+mod Loops
 pub mod Table
 pub mod Undoing
 pub mod Blanking

@@ -9,9 +9,9 @@ use Rattle.std.specs.Fn.{Called}
 use denote.Param.Members.{Mut}
 use Rattle.utreexo.specs.Checks.{push}
 use Rattle.history.specs.Stack.{stack, room}
-use Rattle.undo.specs.declared.record.UndoRecord.{UndoRecord}
-use Rattle.undo.specs.declared.undos.Undos.{Undos}
-use Rattle.undo.specs.Marks.{present, undo_of, marks}
+use Rattle.undo.specs.declared.mark.Mark.{Mark}
+use Rattle.undo.specs.declared.marks.Marks.{Marks}
+use Rattle.undo.specs.Marks.{present, undo_of, marks_of}
 
 -- an array of which each element is made by a closure, from its number
 module _ {F A : Type 0} (g : Mut F (ℕ × Unit {0}) A) (f : F) (v : ℕ → A) (d : A)
@@ -51,10 +51,10 @@ module _ {A : Type 0} where
   table g f xs gives ys n all = ap present (made g f (λ k. slice_get xs k) None gives ys n all) ∙ in_places xs n
 
 -- a ring that holds none, and one that takes a mark
-pub none_held : (u : Undos) → u.ring.held ≡ 0 → marks u ≡ []
+pub none_held : (u : Marks) → u.ring.held ≡ 0 → marks_of u ≡ []
 unfolding stack
 none_held u e = rw e
 
-pub one_pushed : (old new : Undos) (r : UndoRecord) → room old.records ≡ 64 → stack new.records new.ring ≡ push (room old.records) r (stack old.records old.ring)
-    → marks new ≡ push 64 (undo_of r) (marks old)
-one_pushed old new r long e = ap (map undo_of) (e ∙ ap (λ n. push n r (stack old.records old.ring)) long) ∙ sym (take-map undo_of 64 (r ∷ stack old.records old.ring))
+pub one_pushed : (old new : Marks) (r : Mark) → room old.places ≡ 64 → stack new.places new.ring ≡ push (room old.places) r (stack old.places old.ring)
+    → marks_of new ≡ push 64 (undo_of r) (marks_of old)
+one_pushed old new r long e = ap (map undo_of) (e ∙ ap (λ n. push n r (stack old.places old.ring)) long) ∙ sym (take-map undo_of 64 (r ∷ stack old.places old.ring))

@@ -1,5 +1,5 @@
 -- The code's undoing of a mark is the definitions' where the slots that the mark names are blank.
-use Rattle.std.proofs.Common.{◌≡◌, ℕ, ◌<◌, ◌≤◌, Bool, true, false, cond, not, ◌||◌, ◌&&◌, eqb, leb, ◌⊎◌, List, [], ◌∷◌, length, get_or, set, take, is_some, Some, None, Option, sym, refl, ap, ◌∙◌, inl, inr, arith, length-set, length-take, get_or-set_other, get_or-set_same, get_or-take}
+use Rattle.std.proofs.Common.{◌≡◌, ℕ, ◌<◌, ◌≤◌, Bool, true, false, cond, not, ◌||◌, ◌&&◌, eqb, leb, ◌⊎◌, List, [], ◌∷◌, map, length, get_or, ext_get_or, set, take, is_some, Some, None, Option, sym, refl, ap, ◌∙◌, inl, inr, arith, length-set, length-take, get_or-set_other, get_or-set_same, get_or-take}
 use Rattle.std.proofs.lemmas.List.{get_or_past}
 use Rattle.std.proofs.lemmas.Bool.{cases_lt, cases_eq, cases_Bool, eq-eqb, ne_eqb, and_parts, and_from, le-leb, leb-true, not-true}
 use Rattle.std.specs.List.{AllByRecursion}
@@ -11,11 +11,12 @@ use Rattle.utreexo.specs.Bridge.{Undo, undone}
 use Rattle.laws.proofs.Logic.{true_false}
 use Rattle.laws.proofs.Order.{Mem}
 use Rattle.laws.proofs.Members.{mem_filter, filter_mem, mem_all, all_mem, any_none, none_any}
-use Rattle.laws.proofs.Ranges.{below_mem, mem_below}
+use Rattle.laws.proofs.Ranges.{below_mem, mem_below, get_or_below, length_map_below}
 use Rattle.promise.proofs.Undone.{refills}
-use Rattle.undo.specs.declared.record.Blanked.{Blanked}
-use Rattle.undo.specs.declared.record.UndoRecord.{UndoRecord}
-use Rattle.undo.specs.Marks.{names, coin_there, listed, fills, undone_by, undo_of, undoable}
+use Rattle.undo.specs.declared.mark.Blanked.{Blanked}
+use Rattle.undo.specs.declared.mark.Mark.{Mark}
+use Rattle.undo.specs.Marks.{names, coin_there, listed, filled, undone_by, undo_of, undoable}
+use Rattle.undo.proofs.Loops.{fills}
 
 -- what filling makes of one slot: a blank one gets the coin that is there first, a live one keeps its own
 abbrev filled_one : Slots → ℕ → Coin → Slots
@@ -91,7 +92,22 @@ fills_blank (b ∷ bs) s i l e = elim (cases_eq i b.slot.number) [
       ∙ sym (past_refill b bs i (ne_eqb b.slot.number i (λ q. n (sym q))))
 ]
 
-module _ (r : UndoRecord) (s : Slots) (few : r.count ≤ length s) (blank : AllByRecursion (λ w. get_or s w None ≡ None) (undo_of r).spent) where
+-- each slot once these are filled
+fills_at : (bs : List Blanked) (s : Slots) (i : ℕ) → i < length s → get_or (fills bs s) i None ≡ filled bs i (get_or s i None)
+fills_at bs s i l = go (get_or s i None) refl
+  where
+    go : (x : Option Coin) → get_or s i None ≡ x → get_or (fills bs s) i None ≡ filled bs i x
+    go None e = fills_blank bs s i l e
+    go (Some c) e = fills_live bs s i c e
+
+pub fills_so : (bs : List Blanked) (s : Slots) → fills bs s ≡ map (λ w. filled bs w (get_or s w None)) (below (length s))
+fills_so bs s =
+    let m = length_map_below (λ w. filled bs w (get_or s w None)) (length s) in
+    let n = length_fills bs s in
+    ext_get_or None (fills bs s) (map (λ w. filled bs w (get_or s w None)) (below (length s))) (n ∙ sym m)
+    (λ i l. fills_at bs s i (omega arith) ∙ sym (get_or_below (λ w. filled bs w (get_or s w None)) None (length s) i (omega arith)))
+
+module _ (r : Mark) (s : Slots) (few : r.count ≤ length s) (blank : AllByRecursion (λ w. get_or s w None ≡ None) (undo_of r).spent) where
   abbrev bs : List Blanked
   bs = listed r
 
@@ -99,8 +115,8 @@ module _ (r : UndoRecord) (s : Slots) (few : r.count ≤ length s) (blank : AllB
   t = take r.count s
 
   -- undoing a mark, if its slots are blank
-  pub undone_so : undone_by r s ≡ undone (undo_of r) s
-  undone_so = sym (refills (fills bs t) (coin_there bs) (undo_of r).spent t (sym (length_fills bs t)) at there)
+  undone_so : undone_by r s ≡ undone (undo_of r) s
+  undone_so = sym (fills_so bs t) ∙ sym (refills (fills bs t) (coin_there bs) (undo_of r).spent t (sym (length_fills bs t)) at there)
     where
       blank_at : (w : ℕ) → Mem w (undo_of r).spent → get_or t w None ≡ None
       blank_at w m = get_or-take r.count s w None (mem_below r.count w (filter_mem (names bs) (below r.count) w m).0) ∙ mem_all (λ w. get_or s w None ≡ None) (undo_of r).spent w blank m
@@ -143,6 +159,10 @@ undoable_is (m ∷ ms) s e =
           (any_none (λ w. is_some (get_or s w None)) m.spent w (not-true (any (λ w. is_some (get_or s w None)) m.spent) b) n)),
       undoable_is ms (undone m s) d,
     )
+
+-- so undoing a mark that can be undone is that of the definitions
+pub undone_if : (r : Mark) (s : Slots) → undoable (undo_of r ∷ []) s ≡ true → undone_by r s ≡ undone (undo_of r) s
+undone_if r s e = let u = undoable_is (undo_of r ∷ []) s e in undone_so r s u.0 u.1
 
 pub undoable_make : (ms : List Undo) (s : Slots) → Undoable ms s → undoable ms s ≡ true
 undoable_make [] s u = refl

@@ -1,5 +1,5 @@
 -- The code's marks as marks of the definitions, and what blanking and undoing make of a list of slots.
-use Rattle.std.specs.Prelude.{ℕ, Bool, true, cond, not, ◌&&◌, List, [], ◌∷◌, map, length, take, is_some, Some, None, Option, nat_eq, nat_le, slice_index_or, slice_set}
+use Rattle.std.specs.Prelude.{ℕ, Bool, true, cond, not, ◌&&◌, List, [], ◌∷◌, map, length, take, is_some, Some, None, Option, nat_eq, nat_le, slice_index_or}
 use Rattle.utreexo.specs.declared.types.Coin.{Coin}
 use Rattle.utreexo.specs.Lists.{below, filter, any, first}
 use Rattle.utreexo.specs.Forest.{Slots}
@@ -8,9 +8,9 @@ use Rattle.utreexo.specs.Claims.{Target}
 use Rattle.utreexo.specs.Collection.{no_coin, slot_at}
 use Rattle.utreexo.specs.Bridge.{Undo, undone}
 use Rattle.history.specs.Stack.{stack}
-use Rattle.undo.specs.declared.record.Blanked.{Blanked}
-use Rattle.undo.specs.declared.record.UndoRecord.{UndoRecord}
-use Rattle.undo.specs.declared.undos.Undos.{Undos}
+use Rattle.undo.specs.declared.mark.Blanked.{Blanked}
+use Rattle.undo.specs.declared.mark.Mark.{Mark}
+use Rattle.undo.specs.declared.marks.Marks.{Marks}
 
 -- those that are there
 abbrev pub present : {A : Type 0} → List (Option A) → List A
@@ -19,7 +19,7 @@ present (None ∷ xs) = present xs
 present (Some x ∷ xs) = x ∷ present xs
 
 -- the slots of a mark, with their coins, in the order of the block's targets
-abbrev pub listed : UndoRecord → List Blanked
+abbrev pub listed : Mark → List Blanked
 listed r = present r.blanked
 
 -- slot w is among them
@@ -31,33 +31,32 @@ abbrev pub coin_there : List Blanked → ℕ → Coin
 coin_there bs w = elim (first (λ b. nat_eq b.slot.number w) bs) [ None ↦ no_coin | Some b ↦ b.coin ]
 
 -- The mark of the definitions: its slots are put in ascending order.
-abbrev pub undo_of : UndoRecord → Undo
+abbrev pub undo_of : Mark → Undo
 undo_of r =
     let bs = listed r in
     let ws = filter (names bs) (below r.count) in
     record { count = r.count; spent = ws; coins = map (coin_there bs) ws }
 
-abbrev pub undo_in : Option UndoRecord → Option Undo
+abbrev pub undo_in : Option Mark → Option Undo
 undo_in None = None
 undo_in (Some r) = Some (undo_of r)
 
 -- the marks that are held, the newest first
-abbrev pub marks : Undos → List Undo
-marks u = map undo_of (stack u.records u.ring)
+abbrev pub marks_of : Marks → List Undo
+marks_of u = map undo_of (stack u.places u.ring)
 
--- the slots once these are blanked
-abbrev pub blanks : List Blanked → Slots → Slots
-blanks [] s = s
-blanks (b ∷ bs) s = blanks bs (slice_set s b.slot.number None)
+-- the slots once these are blank
+abbrev pub blanked : List Blanked → Slots → Slots
+blanked bs s = map (λ w. cond (names bs w) None (slice_index_or s w None)) (below (length s))
 
--- the slots once these are refilled, where they are blank
-abbrev pub fills : List Blanked → Slots → Slots
-fills [] s = s
-fills (b ∷ bs) s = fills bs (cond (is_some (slice_index_or s b.slot.number None)) s (slice_set s b.slot.number (Some b.coin)))
+-- slot w once these are filled again: a live one keeps its coin
+abbrev pub filled : List Blanked → ℕ → Option Coin → Option Coin
+filled bs w None = cond (names bs w) (Some (coin_there bs w)) None
+filled bs w (Some c) = Some c
 
--- the slots once the mark is undone
-abbrev pub undone_by : UndoRecord → Slots → Slots
-undone_by r s = fills (listed r) (take r.count s)
+-- the slots once a mark is undone, whichever they were: those past its count are cut, and its own are filled
+abbrev pub undone_by : Mark → Slots → Slots
+undone_by r s = let t = take r.count s in map (λ w. filled (listed r) w (slice_index_or t w None)) (below (length t))
 
 -- what a block's target blanks: the slot that has its position, and the coin that it names
 abbrev pub target_entry : Image → Slots → Target → Blanked

@@ -1,8 +1,9 @@
 // Changes of a keeper's slots. Each is told to leave what cannot be changed, so none is refused.
-ghost use Rattle.std.specs.Prelude.{◌≡◌, ◌++◌, map, take, Some};
-ghost use Rattle.undo.specs.Marks.{listed, blanks, undone_by};
+ghost use Rattle.std.specs.Prelude.{◌≡◌, ◌∷◌, [], ◌++◌, map, take, Some, true};
+ghost use Rattle.utreexo.specs.Bridge.{undone};
+ghost use Rattle.undo.specs.Marks.{listed, blanked, undo_of, undoable, undone_by};
 
-use crate::record::UndoRecord;
+use crate::mark::Mark;
 use compression::Compression;
 use keeper::Keeper;
 use utreexo::types::Coin;
@@ -30,10 +31,10 @@ fn cut_to<C: Compression, K: Keeper<C>>(keeper: &mut K, count: u32)
 }
 
 // Tried in the loops below: a flattened iterator, of which the check knows what it gave, but not at which place it stands.
-impl UndoRecord {
+impl Mark {
     // Blanks the slots of the mark.
     pub fn blank<C: Compression, K: Keeper<C>>(&self, keeper: &mut K)
-        ensures after { K.slots keeper.new ≡ blanks (listed self.now) (K.slots keeper.old) }
+        ensures after { K.slots keeper.new ≡ blanked (listed self.now) (K.slots keeper.old) }
         ensures same { K.limit keeper.new ≡ K.limit keeper.old }
     {
         for entry in &self.blanked {
@@ -47,6 +48,7 @@ impl UndoRecord {
     // Cuts the slots back to the count of the mark, and refills those that it blanked.
     pub fn undo<C: Compression, K: Keeper<C>>(&self, keeper: &mut K)
         ensures after { K.slots keeper.new ≡ undone_by self.now (K.slots keeper.old) }
+        ensures undone { undoable (undo_of self.now ∷ []) (K.slots keeper.old) ≡ true → K.slots keeper.new ≡ undone (undo_of self.now) (K.slots keeper.old) }
         ensures same { K.limit keeper.new ≡ K.limit keeper.old }
     {
         cut_to(keeper, self.count);

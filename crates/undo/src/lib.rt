@@ -3,5 +3,5 @@
 #![tactic(auto)]
 
 pub mod changes;
-pub mod record;
-pub mod undos;
+pub mod mark;
+pub mod marks;

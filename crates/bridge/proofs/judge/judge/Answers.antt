@@ -16,10 +16,10 @@ returns-in_err-targets g c =
     let (read, same) = c.in_ok-block.ensures in
     let x = c.in_ok-block.block.bytes.now in
     passed (bridge_take_causes image room s bs) (Takes image s bs) c.from_residual-in_err-targets.result c.in_err-targets.field-0.0 c.from_residual-in_err-targets.ensures.1
-    (not_placed image room s bs read x same c.count.result c.count.ensures _ c.in_err-targets.ensures)
+    (not_placed image room s bs read x same c.count-count.result c.count-count.ensures _ c.in_err-targets.ensures)
 
-pub returns-then-count : goal.returns-then-count
-returns-then-count g c =
+pub returns-in_err-check_limit : goal.returns-in_err-check_limit
+returns-in_err-check_limit g c =
     let image = g.C.Compression.image in
     let s = g.K.Keeper.slots c.args.keeper.now in
     let room = g.K.Keeper.limit c.args.keeper.now in
@@ -29,9 +29,10 @@ returns-then-count g c =
     let (none, (forest, are)) = c.in_ok-targets.ensures in
     let t = c.in_ok-targets.targets in
     let cs = c.coins-coins.result.items in
-    let sum = c.count-2.result + c.len.result in
-    let total : sum ≡ length s + length cs = omega (arith, c.count-2.ensures, c.len.ensures.value) in
-    too_many image room s bs read x same c.count.result c.count.ensures none t are cs c.coins-coins.ensures sum total c.if-count.true
+    let sum = c.count-count.result + c.len.result in
+    let total : sum ≡ length s + length cs = omega (arith, c.count-count.ensures, c.len.ensures.value) in
+    passed (bridge_take_causes image room s bs) (Takes image s bs) c.from_residual-in_err-check_limit.result c.in_err-check_limit.field-0.0 c.from_residual-in_err-check_limit.ensures.1
+    (too_many image room s bs read x same c.count-count.result c.count-count.ensures none t are cs c.coins-coins.ensures sum total _ c.in_err-check_limit.ensures.judged)
 
 pub returns-in_default : goal.returns-in_default
 returns-in_default g c =
@@ -44,9 +45,9 @@ returns-in_default g c =
     let (none, (forest, are)) = c.in_ok-targets.ensures in
     let t = c.in_ok-targets.targets in
     let cs = c.coins-coins.result.items in
-    let sum = c.count-2.result + c.len.result in
-    let total : sum ≡ length s + length cs = omega (arith, c.count-2.ensures, c.len.ensures.value) in
-    not_live image room s bs read x same c.count.result c.count.ensures none t are cs c.coins-coins.ensures sum total c.if-count.false c.in_default.ensures
+    let sum = c.count-count.result + c.len.result in
+    let total : sum ≡ length s + length cs = omega (arith, c.count-count.ensures, c.len.ensures.value) in
+    not_live image room s bs read x same c.count-count.result c.count-count.ensures none t are cs c.coins-coins.ensures sum total c.in_ok-check_limit.ensures.room c.in_default.ensures
 
 pub are_hashes-requires : goal.are_hashes-requires
 are_hashes-requires g c =
@@ -59,9 +60,9 @@ are_hashes-requires g c =
     let (none, (forest, are)) = c.in_ok-targets.ensures in
     let t = c.in_ok-targets.targets in
     let cs = c.coins-coins.result.items in
-    let sum = c.count-2.result + c.len.result in
-    let total : sum ≡ length s + length cs = omega (arith, c.count-2.ensures, c.len.ensures.value) in
-    as_many image room s bs read x same c.count.result c.count.ensures none t are cs c.coins-coins.ensures sum total c.if-count.false c.in-Some.ensures.0 (hashes_in c.hashes.result.now) c.as_slice.result.now c.hashes.ensures (c.as_slice.ensures.value ∙ c.fresh_hashes.ensures)
+    let sum = c.count-count.result + c.len.result in
+    let total : sum ≡ length s + length cs = omega (arith, c.count-count.ensures, c.len.ensures.value) in
+    as_many image room s bs read x same c.count-count.result c.count-count.ensures none t are cs c.coins-coins.ensures sum total c.in_ok-check_limit.ensures.room c.in-Some.ensures.0 (hashes_in c.hashes.result.now) c.as_slice.result.now c.hashes.ensures (c.as_slice.ensures.value ∙ c.fresh_hashes.ensures)
 
 pub returns-then-not-are_hashes : goal.returns-then-not-are_hashes
 returns-then-not-are_hashes g c =
@@ -74,12 +75,12 @@ returns-then-not-are_hashes g c =
     let (none, (forest, are)) = c.in_ok-targets.ensures in
     let t = c.in_ok-targets.targets in
     let cs = c.coins-coins.result.items in
-    let sum = c.count-2.result + c.len.result in
-    let total : sum ≡ length s + length cs = omega (arith, c.count-2.ensures, c.len.ensures.value) in
-    not_fresh image room s bs read x same c.count.result c.count.ensures none t are cs c.coins-coins.ensures sum total c.if-count.false c.in-Some.ensures.0 (hashes_in c.hashes.result.now) c.as_slice.result.now c.hashes.ensures (c.as_slice.ensures.value ∙ c.fresh_hashes.ensures) (sym c.if-not-are_hashes.ensures)
+    let sum = c.count-count.result + c.len.result in
+    let total : sum ≡ length s + length cs = omega (arith, c.count-count.ensures, c.len.ensures.value) in
+    not_fresh image room s bs read x same c.count-count.result c.count-count.ensures none t are cs c.coins-coins.ensures sum total c.in_ok-check_limit.ensures.room c.in-Some.ensures.0 (hashes_in c.hashes.result.now) c.as_slice.result.now c.hashes.ensures (c.as_slice.ensures.value ∙ c.fresh_hashes.ensures) (sym c.if-not-are_hashes.ensures)
 
-pub returns-then-count-capacity : goal.returns-then-count-capacity
-returns-then-count-capacity g c =
+pub returns-then-count-len : goal.returns-then-count-len
+returns-then-count-len g c =
     let image = g.C.Compression.image in
     let s = g.K.Keeper.slots c.args.keeper.now in
     let room = g.K.Keeper.limit c.args.keeper.now in
@@ -89,9 +90,9 @@ returns-then-count-capacity g c =
     let (none, (forest, are)) = c.in_ok-targets.ensures in
     let t = c.in_ok-targets.targets in
     let cs = c.coins-coins.result.items in
-    let sum = c.count-2.result + c.len.result in
-    let total : sum ≡ length s + length cs = omega (arith, c.count-2.ensures, c.len.ensures.value) in
-    no_room image room s bs read x same c.count.result c.count.ensures none t are cs c.coins-coins.ensures sum total c.if-count.false c.in-Some.ensures.0 (hashes_in c.hashes.result.now) c.as_slice.result.now c.hashes.ensures (c.as_slice.ensures.value ∙ c.fresh_hashes.ensures) (sym c.if-not-are_hashes.ensures) (omega (arith, c.capacity.ensures, c.if-count-capacity.true))
+    let sum = c.count-count.result + c.len.result in
+    let total : sum ≡ length s + length cs = omega (arith, c.count-count.ensures, c.len.ensures.value) in
+    no_room image room s bs read x same c.count-count.result c.count-count.ensures none t are cs c.coins-coins.ensures sum total c.in_ok-check_limit.ensures.room c.in-Some.ensures.0 (hashes_in c.hashes.result.now) c.as_slice.result.now c.hashes.ensures (c.as_slice.ensures.value ∙ c.fresh_hashes.ensures) (sym c.if-not-are_hashes.ensures) (omega (arith, c.capacity.ensures, c.if-count-len.true, c.len-2.ensures.value, c.len.ensures.value))
 
 pub returns : goal.returns
 returns g c =
@@ -104,11 +105,11 @@ returns g c =
     let (none, (forest, are)) = c.in_ok-targets.ensures in
     let t = c.in_ok-targets.targets in
     let cs = c.coins-coins.result.items in
-    let sum = c.count-2.result + c.len.result in
-    let total : sum ≡ length s + length cs = omega (arith, c.count-2.ensures, c.len.ensures.value) in (
-      all_pass image room s bs read x same c.count.result c.count.ensures none t are cs c.coins-coins.ensures sum total c.if-count.false c.in-Some.ensures.0 (hashes_in c.hashes.result.now) c.as_slice.result.now c.hashes.ensures (c.as_slice.ensures.value ∙ c.fresh_hashes.ensures) (sym c.if-not-are_hashes.ensures) (omega (arith, c.capacity.ensures, c.if-count-capacity.false)),
+    let sum = c.count-count.result + c.len.result in
+    let total : sum ≡ length s + length cs = omega (arith, c.count-count.ensures, c.len.ensures.value) in (
+      all_pass image room s bs read x same c.count-count.result c.count-count.ensures none t are cs c.coins-coins.ensures sum total c.in_ok-check_limit.ensures.room c.in-Some.ensures.0 (hashes_in c.hashes.result.now) c.as_slice.result.now c.hashes.ensures (c.as_slice.ensures.value ∙ c.fresh_hashes.ensures) (sym c.if-not-are_hashes.ensures) (omega (arith, c.capacity.ensures, c.if-count-len.false, c.len-2.ensures.value, c.len.ensures.value)),
       record {
-        blanked = c.in-Some.ensures.1 ∙ ap (map (target_entry image s)) (placed_so image room s bs read x same c.count.result c.count.ensures none t are cs c.coins-coins.ensures sum total);
-        coins = coins_so image room s bs read x same c.count.result c.count.ensures none t are cs c.coins-coins.ensures sum total;
+        blanked = c.in-Some.ensures.1 ∙ ap (map (target_entry image s)) (placed_so image room s bs read x same c.count-count.result c.count-count.ensures none t are cs c.coins-coins.ensures sum total);
+        coins = coins_so image room s bs read x same c.count-count.result c.count-count.ensures none t are cs c.coins-coins.ensures sum total;
       },
     )

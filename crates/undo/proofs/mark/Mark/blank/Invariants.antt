@@ -1,6 +1,7 @@
 use Rattle.std.proofs.Common.{◌≡◌, drop}
-use Rattle.undo.specs.Marks.{present, blanks}
-use Rattle.undo.proofs.record.UndoRecord.blank.Given as goal
+use Rattle.undo.specs.Marks.{present}
+use Rattle.undo.proofs.Loops.{blanks}
+use Rattle.undo.proofs.mark.Mark.blank.Given as goal
 
 abbrev pub invariant-loop-entry : goal.invariant-loop-entry
 invariant-loop-entry g l =

@@ -25,25 +25,25 @@ impl Default for Blanked {
 // The count before a block, and the slots that it blanked. Marks are copied by the history, so they stand in an array, absent where
 // the block has fewer: an `ArrayVec` is not `Copy`.
 #[derive(Clone, Copy)]
-pub struct UndoRecord {
+pub struct Mark {
     pub(crate) count: u32,
     pub(crate) blanked: [Option<Blanked>; 32],
 }
 
-// What stands at a place of the array. Tried: the call in the closure below, for which the check makes no proof yet (`UndoRecord::new`).
+// What stands at a place of the array. Tried: the call in the closure below, for which the check makes no proof yet (`Mark::new`).
 fn entry_at(blanked: &[Blanked], place: usize) -> Option<Blanked>
     ensures { result ≡ slice_get blanked.now place }
 {
     blanked.get(place).copied()
 }
 
-impl UndoRecord {
+impl Mark {
     // A mark has room for 32 slots, as many as a block has targets.
-    pub fn new(count: u32, blanked: &[Blanked]) -> UndoRecord
+    pub fn new(count: u32, blanked: &[Blanked]) -> Mark
         ensures count { result.count ≡ count }
         ensures value { listed result ≡ take 32 blanked.now }
     {
-        UndoRecord {
+        Mark {
             count,
             blanked: array::from_fn(|place| entry_at(blanked, place)),
         }

@@ -1,6 +1,7 @@
 use Rattle.std.proofs.Common.{◌≡◌, drop}
-use Rattle.undo.specs.Marks.{present, fills}
-use Rattle.undo.proofs.record.UndoRecord.undo.Given as goal
+use Rattle.undo.specs.Marks.{present}
+use Rattle.undo.proofs.Loops.{fills}
+use Rattle.undo.proofs.mark.Mark.undo.Given as goal
 
 abbrev pub invariant-loop-entry : goal.invariant-loop-entry
 invariant-loop-entry g l =
