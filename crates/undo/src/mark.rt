@@ -1,5 +1,6 @@
 // The mark of one block.
 ghost use Rattle.std.specs.Prelude.{◌≡◌, take, slice_get};
+ghost use Rattle.utreexo.specs.Collection.{no_coin};
 ghost use Rattle.undo.specs.Marks.{listed};
 
 use std::array;
@@ -14,7 +15,9 @@ pub struct Blanked {
 
 // What stands in the unused places of a bounded list. By hand: a slot has no default of its own.
 impl Default for Blanked {
-    fn default() -> Blanked {
+    fn default() -> Blanked
+        ensures { result ≡ record { slot = record { number = 0 }; coin = no_coin } }
+    {
         Blanked {
             slot: Slot { number: 0 },
             coin: Coin::default(),
