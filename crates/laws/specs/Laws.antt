@@ -1,5 +1,5 @@
--- Laws that show the definitions to be the right ones. Each holds of forests of fewer than `bound` slots; the functions of this crate
--- state them at the bound 2 ^ 32.
+-- Laws that show the definitions to be the right ones, for forests of fewer than `bound` slots; the functions of this crate state them at
+-- the bound 2 ^ 32. The last has this bound in itself, and another parameter.
 use Rattle.std.specs.Prelude.{◌≡◌, ℕ, ◌*◌, ◌/◌, ◌^◌, ◌<◌, ◌≤◌, true, List, [], ◌∷◌, length, is_some, Some, None, nat_lt, slice_index_or}
 use Rattle.utreexo.specs.declared.types.Coin.{Coin}
 use Rattle.utreexo.specs.Values.{Image}
@@ -37,6 +37,6 @@ PathsFresh bound = (image : Image) (s : Slots) → length s < bound → (i : ℕ
     let h = slot_held image s i c in
     h.path ≡ fresh image s (record { node = at_node h.row h.place; coin = c } ∷ [])
 
--- a proof needs at most `most` hashes for each target
+-- a proof in a forest of fewer than 2 ^ 32 slots needs at most `most` hashes for each target
 abbrev pub NeededFew : ℕ → Type 0
 NeededFew most = (s : Slots) → length s < 2 ^ 32 → (ts : List Target) → length (needed (length s) ts) ≤ most * length ts

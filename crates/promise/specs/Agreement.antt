@@ -21,7 +21,7 @@ pub record SoundCollection (p : Collection) : Type 0 where
   pub live : any (λ w. not (is_some (slice_index_or p.slots w None))) p.watched ≡ false
   pub once : each_once p.watched ≡ true
 
--- what a wallet holds that follows a register: as many marks at most; count, roots and watched coins of its slots; and so at each mark
+-- what a wallet holds that follows a register: room for as many marks; count, roots and watched coins of its slots; and so at each mark
 abbrev pub wallet_for : Image → Register → Wallet
 wallet_for image r = record { room = r.room; view = register_view image r; marks = map (λ p. view_of image p.slots p.watched) r.marks }
 

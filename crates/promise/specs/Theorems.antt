@@ -50,7 +50,7 @@ BlocksStep causes = (image : Image) (s : Slots) → length s < 2 ^ 32 → (watch
 -- Cards and written blocks ---------------------------------------------------------------------
 
 -- the card of a live slot of a bridge with the same standing blocks is taken as a block; and it is watched, unless its position is
--- on the shelf, while fewer than `places` coins are
+-- on the shelf, while fewer than `places_on_shelf` coins are
 abbrev pub CardsWatched : ℕ → Type 0
 CardsWatched places_on_shelf = (image : Image) → ImageFits image → (places : ℕ) (calls : List Call) → Agreed image places calls →
     (capacity : ℕ) (fed : List BridgeCall) → AllByRecursion GivenOctets fed →
@@ -78,7 +78,7 @@ BridgeWrites So = (image : Image) → ImageFits image → (capacity : ℕ) (fed 
 
 -- Blocks as bytes -----------------------------------------------------------------------------------
 
--- a block within the limits of its form, but for its new coins
+-- a block within the limits of its form, its words of 64 bits; of the words of its new coins nothing is said here
 pub record Fitting (b : Block) : Type 0 where
   pub same : length b.targets ≡ length b.spent
   pub few_spent : length b.spent ≤ 32

@@ -6,12 +6,14 @@ use Rattle.utreexo.specs.declared.types.Value.{Value}
 use Rattle.utreexo.specs.Bytes.{Bytes, part, number_in, number_bytes, coin_in, value_in, coin_bytes, value_bytes}
 use Rattle.utreexo.specs.Lists.{below}
 
+-- the four lists of a block: targets, the coins spent at them, hashes, and new coins
 pub record Block : Type 0 where
   pub targets : List ℕ
   pub spent : List Coin
   pub hashes : List Value
   pub coins : List Coin
 
+-- the lists joined up
 abbrev pub concat : List Bytes → Bytes
 concat [] = []
 concat (b ∷ bs) = b ++ concat bs
@@ -46,11 +48,12 @@ entries b =
       coins = map (λ i. coin_in (part (6 + 40 * d + 32 * h + 32 * i) 32 b)) (below a);
     }
 
--- strictly ascending
+-- strictly ascending, from above y on
 abbrev pub ascends_from : ℕ → List ℕ → Bool
 ascends_from y [] = true
 ascends_from y (z ∷ zs) = nat_lt y z && ascends_from z zs
 
+-- strictly ascending
 abbrev pub ascending : List ℕ → Bool
 ascending [] = true
 ascending (x ∷ xs) = ascends_from x xs

@@ -17,14 +17,17 @@ pub record Undo : Type 0 where
   pub spent : List ℕ
   pub coins : List Coin
 
+-- the bridge: its keeper's capacity and slots, and its marks, the newest first
 pub record Bridge : Type 0 where
   pub capacity : ℕ
   pub slots : Slots
   pub marks : List Undo
 
+-- a bridge over an empty keeper
 abbrev pub new_bridge : ℕ → Bridge
 new_bridge capacity = record { capacity = capacity; slots = []; marks = [] }
 
+-- the causes for which take is refused, in their order: a bridge looks at its slots, so 16 and 17 stand for a wallet's 9 and 10
 abbrev pub bridge_take_causes : Image → ℕ → Slots → Bytes → List Cause
 bridge_take_causes image capacity s bs =
     let b = entries bs in
@@ -35,11 +38,13 @@ bridge_take_causes image capacity s bs =
     ∷ cause 17 (not (same_values b.hashes (fresh image s ts)))
     ∷ cause 18 (nat_lt capacity (length s + length b.coins)) ∷ []))
 
+-- the mark of a block, of the slots before it
 abbrev pub undo_of : Image → Slots → Bytes → Undo
 undo_of image s b =
     let ws = slots_named image s (entries b) in
     record { count = length s; spent = ws; coins = map (λ w. elim (slice_index_or s w None) [ None ↦ no_coin | Some c ↦ c ]) ws }
 
+-- the slots once these hold these coins again
 abbrev pub refilled : List ℕ → List Coin → Slots → Slots
 refilled [] cs s = s
 refilled (w ∷ ws) [] s = s
@@ -49,11 +54,12 @@ refilled (w ∷ ws) (c ∷ cs) s = refilled ws cs (slice_set s w (Some c))
 abbrev pub undone : Undo → Slots → Slots
 undone u s = refilled u.spent u.coins (take u.count s)
 
+-- the calls that change a bridge
 pub data BridgeCall : Type 0 where
   bridge_take : Bytes → BridgeCall
   bridge_take_back : BridgeCall
 
--- the bridge keeps 64 marks
+-- a call's answer, and the bridge after it; the bridge keeps 64 marks
 abbrev pub bridge_step : Image → BridgeCall → Bridge → Step Bridge
 bridge_step image (bridge_take b) g =
     when_granted (refusal (bridge_take_causes image g.capacity g.slots b))

@@ -5,10 +5,11 @@ use Rattle.utreexo.specs.declared.types.Coin.{Coin}
 use Rattle.utreexo.specs.declared.types.Position.{Position}
 use Rattle.utreexo.specs.declared.types.Value.{Value}
 
+-- a list of bytes; that its numbers are below 256 is said apart, by Octets
 abbrev pub Bytes : Type 0
 Bytes = List ℕ
 
--- all of them are bytes indeed
+-- each number of the list is a byte
 abbrev pub Octets : Bytes → Type 0
 Octets bs = AllByRecursion (λ b. b < 256) bs
 
@@ -40,6 +41,7 @@ coin_in bs = record { w0 = number_in (part 0 8 bs); w1 = number_in (part 8 8 bs)
 abbrev pub value_in : Bytes → Value
 value_in bs = record { w0 = number_in (part 0 8 bs); w1 = number_in (part 8 8 bs); w2 = number_in (part 16 8 bs); w3 = number_in (part 24 8 bs) }
 
+-- four words as 32 bytes
 abbrev pub four_words : ℕ → ℕ → ℕ → ℕ → Bytes
 four_words a b c d = number_bytes 8 a ++ (number_bytes 8 b ++ (number_bytes 8 c ++ number_bytes 8 d))
 

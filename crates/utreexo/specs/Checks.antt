@@ -15,6 +15,7 @@ pub record Cause : Type 0 where
   pub holds : Bool
   pub number : ℕ
 
+-- the cause of number n holds if the test passes
 abbrev pub cause : ℕ → Bool → Cause
 cause n t = record { holds = t; number = n }
 
@@ -41,7 +42,7 @@ abbrev pub when_granted : {S : Type 0} → Option ℕ → S → S → Step S
 when_granted None new old = step (granted []) new
 when_granted (Some k) new old = step (refused k) old
 
--- a history has its newest mark first, and keeps only so many
+-- a mark pushed on a history, which has its newest mark first and keeps only as many as it has room for
 abbrev pub push : {S : Type 0} → ℕ → S → List S → List S
 push room mark marks = take room (mark ∷ marks)
 
@@ -76,9 +77,11 @@ named n (p ∷ ps) (c ∷ cs) =
     let r = named n ps cs in
     elim (locate n p) [ None ↦ r | Some e ↦ record { node = e; coin = c } ∷ r ]
 
+-- a block's targets, in a forest of n slots
 abbrev pub targets_of : ℕ → Block → List Target
 targets_of n b = named n b.targets b.spent
 
+-- a block's proof, in a forest of n slots
 abbrev pub block_proof : ℕ → Block → Proof
 block_proof n b = proof_of n (targets_of n b) b.hashes
 

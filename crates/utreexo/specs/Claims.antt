@@ -17,6 +17,7 @@ pub record Target : Type 0 where
 abbrev pub beneath : Node → Node → Bool
 beneath d e = nat_le d.row e.row && d.place / 2 ^ (e.row - d.row) == e.place
 
+-- d is e
 abbrev pub same_node : Node → Node → Bool
 same_node d e = d.row == e.row && d.place == e.place
 
@@ -24,6 +25,7 @@ same_node d e = d.row == e.row && d.place == e.place
 abbrev pub covered : List Target → Node → Bool
 covered ts e = any (λ t. beneath t.node e) ts
 
+-- the target at e, if there is one
 abbrev pub target_at : List Target → Node → Option Target
 target_at ts e = first (λ t. same_node t.node e) ts
 
@@ -33,6 +35,7 @@ is_needed n ts e =
     is_some (tree_of n (at_node (e.row + 1) (e.place / 2)))
     && (not (covered ts e) && covered ts (at_node e.row (sibling e.place)))
 
+-- the position p is needed, in a forest of n slots
 abbrev pub needed_at : ℕ → List Target → ℕ → Bool
 needed_at n ts p = elim (locate n p) [ None ↦ false | Some e ↦ is_needed n ts e ]
 
@@ -40,7 +43,7 @@ needed_at n ts p = elim (locate n p) [ None ↦ false | Some e ↦ is_needed n t
 abbrev pub needed : ℕ → List Target → List ℕ
 needed n ts = filter (needed_at n ts) (below (2 ^ (rows n + 1) - 1))
 
--- A proof has one hash for each needed position. Where none is given the value is of no account.
+-- where no hash is given, the value is of no account
 abbrev pub no_value : Value
 no_value = record { w0 = 0; w1 = 0; w2 = 0; w3 = 0 }
 
@@ -50,11 +53,13 @@ pick [] hs p = no_value
 pick (q ∷ qs) [] p = no_value
 pick (q ∷ qs) (h ∷ hs) p = cond (p == q) h (pick qs hs p)
 
+-- A proof: the count, the targets, and a hash by row and place. One hash is given for each needed position.
 pub record Proof : Type 0 where
   pub count : ℕ
   pub targets : List Target
   pub hash : ℕ → ℕ → Value
 
+-- the proof that these targets and hashes make, the hashes in the order of the needed positions
 abbrev pub proof_of : ℕ → List Target → List Value → Proof
 proof_of n ts hs = record { count = n; targets = ts; hash = λ r o. pick (needed n ts) hs (position n r o) }
 
@@ -65,6 +70,7 @@ pub data Claim : Type 0 where
   given : Value → Claim
   both : Claim → Claim → Claim
 
+-- what is claimed at place o of row r
 abbrev pub claim_at : Proof → ℕ → ℕ → Claim
 claim_at p zero o = elim (target_at p.targets (at_node 0 o)) [ None ↦ given (p.hash 0 o) | Some t ↦ spent t.coin ]
 claim_at p (suc r) o =
@@ -99,9 +105,11 @@ module _ (image : Image) (p : Proof) where
   abbrev pub root_claim : ℕ → Claim
   root_claim k = claim_at p k (tree_place p.count k)
 
+  -- there is a tree of row k, and its root position is covered
   abbrev pub root_covered : ℕ → Bool
   root_covered k = bit p.count k && covered p.targets (at_node k (tree_place p.count k))
 
+  -- where it is covered, the claimed value there is the stored root, which is not blank
   abbrev pub fits_root : List (Option Value) → ℕ → Bool
   fits_root roots k =
       elim (root_covered k) [
@@ -109,7 +117,7 @@ module _ (image : Image) (p : Proof) where
         | true ↦ (elim (slice_index_or roots k None) [ None ↦ false | Some v ↦ same_value v (claimed image (root_claim k)) ])
       ]
 
-  -- the proof fits when each covered root position's claimed value is the stored root
+  -- the proof fits when this is so of every tree
   abbrev pub fits : List (Option Value) → Bool
   fits roots = not (any (λ k. not (fits_root roots k)) (below 32))
 

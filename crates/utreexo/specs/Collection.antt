@@ -26,6 +26,7 @@ slot_held image s slot c =
 abbrev pub held_at : Image → Slots → ℕ → List Held
 held_at image s slot = elim (slice_index_or s slot None) [ None ↦ [] | Some c ↦ slot_held image s slot c ∷ [] ]
 
+-- the records of these slots, in this order
 abbrev pub all_held : Image → Slots → List ℕ → List Held
 all_held image s [] = []
 all_held image s (w ∷ ws) = held_at image s w ++ all_held image s ws
@@ -38,26 +39,29 @@ view_of image s ws = record { count = length s; roots = roots_of image s; shelf 
 abbrev pub slot_has : Image → Slots → Node → ℕ → Bool
 slot_has image s e slot = any (λ h. same_node (at_node h.row h.place) e) (held_at image s slot)
 
--- the live slot that has a position, and its coin
+-- the live slot that has a position
 abbrev pub slot_at : Image → Slots → Node → Option ℕ
 slot_at image s e = first (slot_has image s e) (below (length s))
 
+-- the coin that has a position
 abbrev pub coin_at : Image → Slots → Node → Option Coin
 coin_at image s e = elim (slot_at image s e) [ None ↦ None | Some w ↦ slice_index_or s w None ]
 
 -- Own inputs and fresh proofs -------------------------------------------------------------
 
+-- the image of an input, if there is one
 abbrev pub image_of : Image → Option Input → Option Value
 image_of image None = None
 image_of image (Some x) = Some (image x)
 
+-- the pair of two values, if both are there
 abbrev pub paired : Option Value → Option Value → Option Input
 paired None b = None
 paired (Some a) None = None
 paired (Some a) (Some b) = Some (Pair a b)
 
--- The own input at a position: the leaf input of the coin that has it; else, where coins lie beneath it, the pair of the values
--- at its children. It goes by positions, not by spans: a coin that moved up lies beneath every position above its own.
+-- The own input at a position: the leaf input of the coin that has it; else, where both its children have a value, the pair of these,
+-- which is where coins lie beneath it. It goes by positions, not by spans: a coin that moved up lies beneath every position above its own.
 abbrev pub own_input : Image → Slots → ℕ → ℕ → Option Input
 own_input image s zero o = elim (coin_at image s (at_node 0 o)) [ None ↦ None | Some c ↦ Some (Leaf c) ]
 own_input image s (suc r) o =
@@ -69,6 +73,7 @@ own_input image s (suc r) o =
 abbrev pub value_at : Image → Slots → Node → Option Value
 value_at image s e = image_of image (own_input image s e.row e.place)
 
+-- the value at the position p; where there is none, it is of no account
 abbrev pub fresh_value : Image → Slots → ℕ → Value
 fresh_value image s p = elim (locate (length s) p) [ None ↦ no_value | Some e ↦ (elim (value_at image s e) [ None ↦ no_value | Some v ↦ v ]) ]
 
@@ -76,6 +81,7 @@ fresh_value image s p = elim (locate (length s) p) [ None ↦ no_value | Some e 
 abbrev pub fresh : Image → Slots → List Target → List Value
 fresh image s ts = map (fresh_value image s) (needed (length s) ts)
 
+-- equality of lists of values, as a test
 abbrev pub same_values : List Value → List Value → Bool
 same_values [] [] = true
 same_values [] (y ∷ ys) = false
@@ -95,6 +101,7 @@ genuine image s b =
 
 -- A block's step on the slots ----------------------------------------------------------------
 
+-- slot w is live and has the position of one of these targets
 abbrev pub spent_slot : Image → Slots → List Target → ℕ → Bool
 spent_slot image s ts w = any (λ t. slot_has image s t.node w) ts
 
@@ -105,12 +112,13 @@ slots_after image bs s =
     let ts = targets_of (length s) b in
     map (λ w. cond (spent_slot image s ts w) None (slice_index_or s w None)) (below (length s)) ++ map (λ c. Some c) b.coins
 
--- the slots that a block's targets name
+-- the slots that have the positions of a block's targets, ascending
 abbrev pub slots_named : Image → Slots → Block → List ℕ
 slots_named image s b = filter (spent_slot image s (targets_of (length s) b)) (below (length s))
 
 -- Cards and written blocks ---------------------------------------------------------------------
 
+-- the card of a slot's record, where there is one
 abbrev pub card_bytes : ℕ → List Held → Bytes
 card_bytes n [] = []
 card_bytes n (h ∷ hs) = card_of n h
@@ -124,6 +132,7 @@ card image s slot out =
 abbrev pub no_coin : Coin
 no_coin = record { w0 = 0; w1 = 0; w2 = 0; w3 = 0 }
 
+-- the coins that have these positions
 abbrev pub coins_at : Image → Slots → List ℕ → List Coin
 coins_at image s ps = map (λ p. elim (locate (length s) p) [ None ↦ no_coin | Some e ↦ (elim (coin_at image s e) [ None ↦ no_coin | Some c ↦ c ]) ]) ps
 
@@ -133,6 +142,7 @@ block_for image s ps cs =
     let spent = coins_at image s ps in
     record { targets = ps; spent = spent; hashes = fresh image s (named (length s) ps spent); coins = cs }
 
+-- the causes for which write is refused, in their order
 abbrev pub write_causes : Image → Slots → List ℕ → List Coin → List Cause
 write_causes image s ps cs =
     cause 2 (nat_lt 32 (length ps) || nat_lt 32 (length cs))
@@ -143,6 +153,7 @@ write_causes image s ps cs =
     ∷ cause 16 (any (λ p. elim (locate (length s) p) [ None ↦ true | Some e ↦ not (is_some (coin_at image s e)) ]) ps)
     ∷ []
 
+-- that block, into an output
 abbrev pub write : Image → Slots → List ℕ → List Coin → Bytes → Answer
 write image s ps cs out = output (write_causes image s ps cs) (composed (block_for image s ps cs)) out
 
@@ -154,6 +165,7 @@ pub data Verdict : Type 0 where
   stands : Verdict
   differs : ℕ → Input → Input → Verdict
 
+-- the position p is covered, in a forest of n slots
 abbrev pub covered_at : ℕ → List Target → ℕ → Bool
 covered_at n ts p = elim (locate n p) [ None ↦ false | Some e ↦ covered ts e ]
 
@@ -161,13 +173,14 @@ covered_at n ts p = elim (locate n p) [ None ↦ false | Some e ↦ covered ts e
 abbrev pub visited : ℕ → List Target → List ℕ
 visited n ts = reverse (filter (covered_at n ts) (below (2 ^ (rows n + 1) - 1)))
 
--- the own and the claimed input at position q, and the verdict of the visit that goes on
+-- the verdict at position q: where its own and claimed input, in this order, differ, it is that; else that of the visit that goes on
 abbrev pub compared : ℕ → Option Input → Option Input → Verdict → Verdict
 compared q (Some x) (Some y) on = cond (same_input x y) on (differs q x y)
 compared q (Some x) None on = on
 compared q None (Some y) on = on
 compared q None None on = on
 
+-- the verdict of a visit of these positions, one after another: at the first where the inputs differ; if they differ at none, the block stands
 abbrev pub visit : Image → Slots → Proof → List ℕ → Verdict
 visit image s p [] = stands
 visit image s p (q ∷ qs) =

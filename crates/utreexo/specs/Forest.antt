@@ -75,6 +75,7 @@ row_from n p zero r = None
 row_from n p (suc more) r =
     cond (nat_le (position n r 0) p && nat_lt p (position n (r + 1) 0)) (Some (at_node r (p - position n r 0))) (row_from n p more (r + 1))
 
+-- the same, if it is in the forest of n slots
 abbrev pub if_inside : ℕ → Option Node → Option Node
 if_inside n None = None
 if_inside n (Some d) = cond (is_some (tree_of n d)) (Some d) None
@@ -95,12 +96,13 @@ pub record Struck : Type 0 where
   pub place : ℕ
   pub path : List Value
 
--- the lowest bit of o, whose sibling run has the given value, before the bits above it
+-- the lowest bit of o put before the bits above it, which are done: struck out if its sibling run has no value, else kept, with that value
+-- at the front of the path
 abbrev pub keep_bit : ℕ → Option Value → Struck → Struck
 keep_bit o None k = record { row = k.row + 1; place = k.place; path = k.path }
 keep_bit o (Some v) k = record { row = k.row; place = 2 * k.place + o % 2; path = v ∷ k.path }
 
--- the number o after striking, its lowest bits having these siblings
+-- the number o after striking, the values over the sibling runs of its lowest bits being these, from below
 abbrev pub strike : List (Option Value) → ℕ → Struck
 strike [] o = record { row = 0; place = o; path = [] }
 strike (x ∷ xs) o = keep_bit o x (strike xs (o / 2))

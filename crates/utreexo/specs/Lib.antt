@@ -1,15 +1,15 @@
-pub mod Bytes
 pub mod Lists
+pub mod Bytes
 pub mod Values
 pub mod Tally
 pub mod Forest
 pub mod Claims
 pub mod Blocks
 pub mod Checks
-pub mod Outcomes
 pub mod Wallet
 pub mod Collection
 pub mod Register
 pub mod Bridge
 pub mod Promise
 pub mod Cases
+pub mod Outcomes

@@ -10,11 +10,12 @@ abbrev pub Judged : {A : Type 0} → List Cause → (A → Type 0) → Result A 
 Judged causes P (Ok a) = (refusal causes ≡ None) × P a
 Judged causes P (Err e) = refusal causes ≡ Some (number e)
 
--- a call that writes: its answer, with the output after it; and what it leaves and returns
+-- the answer of a call that writes, with the output after it
 abbrev pub answered : Result ℕ Refusal → Bytes → Answer
 answered (Ok n) after = granted after
 answered (Err e) after = refused (number e)
 
+-- such a call returns the length of its result; refused, it leaves the output as it was
 abbrev pub Writes : Bytes → Bytes → Bytes → Result ℕ Refusal → Type 0
 Writes result before after (Ok n) = n ≡ length result
 Writes result before after (Err e) = after ≡ before

@@ -27,6 +27,7 @@ run f s (c ∷ cs) =
     let on = run f now.state cs in
     record { answers = now.answer ∷ on.answers; state = on.state }
 
+-- the runs of a wallet, a register and a bridge from when they are made
 abbrev pub wallet_run : Image → ℕ → List Call → Run Wallet
 wallet_run image places calls = run (wallet_step image) (new_wallet places) calls
 
@@ -40,7 +41,8 @@ bridge_run image capacity calls = run (bridge_step image) (new_bridge capacity) 
 abbrev pub Agreed : Image → ℕ → List Call → Type 0
 Agreed image places calls = (wallet_run image places calls).answers ≡ (register_run image places calls).answers
 
--- Standing are the blocks taken by its own calls and not taken back; here the newest comes first.
+-- Standing are the blocks taken by its own calls and not taken back; here the newest comes first. What one call with this answer makes of
+-- them:
 abbrev pub stand : Call → Answer → List Bytes → List Bytes
 stand (take_block b) (granted o) bs = b ∷ bs
 stand (take_block b) (refused k) bs = bs
@@ -51,6 +53,7 @@ stand (show p out) a bs = bs
 stand take_back (granted o) bs = drop 1 bs
 stand take_back (refused k) bs = bs
 
+-- what a list of calls with these answers makes of them
 abbrev pub standing : List Call → List Answer → List Bytes → List Bytes
 standing [] ans bs = bs
 standing (c ∷ cs) [] bs = bs
@@ -122,5 +125,6 @@ module _ (image : Image) (places : ℕ) where
   abbrev pub Served : Type 0
   Served = ServedWhere (ImageFits image) GivenOctets
 
+  -- the promise: all three parts
   abbrev pub Faithful : Type 0
   Faithful = Follows × Caught × Served

@@ -1,4 +1,4 @@
--- The register: a list of slots, the watched ones in the order taken, and the earlier pairs of these two lists. It is given the
+-- The register: a list of slots, the watched ones in the order watched, and the earlier pairs of these two lists. It is given the
 -- wallet's calls with their arguments, and nothing else of the wallet.
 use Rattle.std.specs.Prelude.{ℕ, ◌+◌, min, Bool, not, ◌&&◌, List, [], ◌∷◌, ◌++◌, length, Some, None, ◌==◌, nat_eq, nat_le, nat_lt}
 use Rattle.utreexo.specs.Bytes.{Bytes}
@@ -10,15 +10,18 @@ use Rattle.utreexo.specs.Checks.{Cause, cause, refusal, granted, refused, Step, 
 use Rattle.utreexo.specs.Wallet.{View, position_of, Call, take_block, check_block, watch, let_go, show, take_back}
 use Rattle.utreexo.specs.Collection.{held_at, view_of, genuine, spent_slot, slots_after, slots_named, card}
 
+-- all slots, and the numbers of the watched ones in the order watched
 pub record Collection : Type 0 where
   pub slots : Slots
   pub watched : List ℕ
 
+-- the two lists as they are, and earlier ones, the newest first, with room for so many
 pub record Register : Type 0 where
   pub room : ℕ
   pub current : Collection
   pub marks : List Collection
 
+-- a register is made empty, with the room of a wallet of as many places
 abbrev pub new_register : ℕ → Register
 new_register places = record { room = min places 64; current = record { slots = []; watched = [] }; marks = [] }
 
@@ -26,6 +29,7 @@ new_register places = record { room = min places 64; current = record { slots = 
 abbrev pub register_view : Image → Register → View
 register_view image r = view_of image r.current.slots r.current.watched
 
+-- the register with other watched slots
 abbrev pub with_watched : Register → List ℕ → Register
 with_watched r ws = record { room = r.room; current = record { slots = r.current.slots; watched = ws }; marks = r.marks }
 
@@ -42,6 +46,7 @@ register_take_causes image s bs =
     ∷ cause 10 (not (genuine image s b))
     ∷ cause 11 (nat_lt most_slots (length s + length b.coins)) ∷ []))
 
+-- Watch likewise; and it looks at watched slots where a wallet looks at its shelf.
 abbrev pub register_watch_causes : Image → Register → Bytes → List Cause
 register_watch_causes image r bs =
     let s = r.current.slots in
@@ -55,6 +60,7 @@ register_watch_causes image r bs =
     ∷ cause 12 (any (λ p. any (has_position image s p) r.current.watched) b.targets)
     ∷ cause 13 (nat_le 8 (length r.current.watched)) ∷ []))
 
+-- a call's answer, and the register after it
 abbrev pub register_step : Image → Call → Register → Step Register
 register_step image (take_block b) r =
     let s = r.current.slots in

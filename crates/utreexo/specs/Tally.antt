@@ -5,9 +5,11 @@ use Rattle.utreexo.specs.declared.types.Input.TheVariants.{Leaf, Pair}
 use Rattle.utreexo.specs.Bytes.{coin_bytes, value_in, value_bytes}
 use Rattle.utreexo.specs.Values.{Image}
 
+-- a byte of a leaf's image, by the coin's byte
 abbrev pub leaf_byte : ℕ → ℕ
 leaf_byte b = (b + 1) % 256
 
+-- a byte of a pair's image, by the bytes of the left and the right value
 abbrev pub pair_byte : ℕ → ℕ → ℕ
 pair_byte l r = (3 * l + 5 * r) % 256
 

@@ -9,7 +9,7 @@ use Rattle.utreexo.specs.declared.types.Input.TheVariants.{Leaf, Pair}
 abbrev pub Image : Type 0
 Image = Input → Value
 
--- equality, as a test
+-- equality of coins, of values and of inputs, as a test
 abbrev pub same_coin : Coin → Coin → Bool
 same_coin a b = a.w0 == b.w0 && (a.w1 == b.w1 && (a.w2 == b.w2 && a.w3 == b.w3))
 

@@ -24,6 +24,7 @@ pub record View : Type 0 where
   pub roots : List (Option Value)
   pub shelf : List Held
 
+-- the position of a coin of the shelf, in a forest of n slots
 abbrev pub position_of : ℕ → Held → ℕ
 position_of n h = position n h.row h.place
 
@@ -31,6 +32,7 @@ position_of n h = position n h.row h.place
 abbrev pub card_of : ℕ → Held → Bytes
 card_of n h = composed (record { targets = position_of n h ∷ []; spent = h.coin ∷ []; hashes = h.path; coins = [] })
 
+-- a coin of the shelf has the position p
 abbrev pub on_shelf : ℕ → List Held → ℕ → Bool
 on_shelf n shelf p = any (λ h. nat_eq (position_of n h) p) shelf
 
@@ -46,6 +48,7 @@ renewed image p r o [] = []
 renewed image p r o (v ∷ vs) =
     cond (covered p.targets (at_node r (sibling o))) (after image (claim_at p r (sibling o))) (Some v) ∷ renewed image p (r + 1) (o / 2) vs
 
+-- a coin once bits of its place were struck out: it moves up as many rows
 abbrev pub moved : Held → Struck → Held
 moved h k = record { coin = h.coin; row = h.row + k.row; place = k.place; path = k.path }
 
@@ -53,6 +56,7 @@ moved h k = record { coin = h.coin; row = h.row + k.row; place = k.place; path =
 abbrev pub refreshed : Image → Proof → Held → Held
 refreshed image p h = moved h (strike (renewed image p h.row h.place h.path) h.place)
 
+-- Spending a block's targets: covered roots become the after-values there; coins leave the shelf, and those that stay are refreshed.
 abbrev pub spend : Image → Block → View → View
 spend image b v =
     let p = block_proof v.count b in
@@ -91,9 +95,11 @@ carry image (suc more) k c v =
       | false ↦ record { count = v.count + 1; roots = slice_set v.roots k c; shelf = v.shelf }
     ]
 
+-- one new coin: it comes as a tree of row 0, whose root is the coin's leaf image
 abbrev pub add : Image → View → Coin → View
 add image v c = carry image 32 0 (Some (image (Leaf c))) v
 
+-- the new coins, one after another
 abbrev pub add_all : Image → View → List Coin → View
 add_all image v [] = v
 add_all image v (c ∷ cs) = add_all image (add image v c) cs
@@ -104,14 +110,14 @@ view_after image bs v = let b = entries bs in add_all image (spend image b v) b.
 
 -- Calls ------------------------------------------------------------------------------------
 
--- take and check
+-- the causes for which take and check are refused, in their order
 abbrev pub take_causes : Image → View → Bytes → List Cause
 take_causes image v bs =
     let b = entries bs in
     read_causes bs ++ (cause 4 (not (ascending b.targets)) ∷ place_causes v.count b ++ (proof_causes image v.count v.roots b
     ++ (cause 11 (nat_lt most_slots (v.count + length b.coins)) ∷ [])))
 
--- watch
+-- those for which watch is
 abbrev pub watch_causes : Image → View → Bytes → List Cause
 watch_causes image v bs =
     let b = entries bs in
@@ -126,12 +132,13 @@ watch_causes image v bs =
 abbrev pub held_from : ℕ → Block → List Held
 held_from n b = map (λ t. record { coin = t.coin; row = t.node.row; place = t.node.place; path = b.hashes }) (targets_of n b)
 
--- the wallet with its history, which keeps so many marks
+-- The wallet: what it knows, and its history, the newest mark first. A mark is an earlier view; there is room for so many.
 pub record Wallet : Type 0 where
   pub room : ℕ
   pub view : View
   pub marks : List View
 
+-- no slot, no root, nothing on the shelf
 abbrev pub empty_view : View
 empty_view = record { count = 0; roots = map (λ k. None) (below 32); shelf = [] }
 
@@ -139,6 +146,7 @@ empty_view = record { count = 0; roots = map (λ k. None) (below 32); shelf = []
 abbrev pub new_wallet : ℕ → Wallet
 new_wallet places = record { room = min places 64; view = empty_view; marks = [] }
 
+-- The calls of a wallet. A block or card is given as bytes, a position as its number; show is given an output as well.
 pub data Call : Type 0 where
   take_block : Bytes → Call
   check_block : Bytes → Call
@@ -147,16 +155,20 @@ pub data Call : Type 0 where
   show : ℕ → Bytes → Call
   take_back : Call
 
+-- the wallet with another view
 abbrev pub with_view : Wallet → View → Wallet
 with_view w v = record { room = w.room; view = v; marks = w.marks }
 
+-- the view with another shelf
 abbrev pub with_shelf : View → List Held → View
 with_shelf v hs = record { count = v.count; roots = v.roots; shelf = hs }
 
+-- the shelf without the first coin that passes the test
 abbrev pub drop_first : (Held → Bool) → List Held → List Held
 drop_first p [] = []
 drop_first p (h ∷ hs) = cond (p h) hs (h ∷ drop_first p hs)
 
+-- show: the card of the coin of the shelf that has the position p, into an output
 abbrev pub shown : View → ℕ → Bytes → Answer
 shown v p out =
     elim (first (λ h. nat_eq (position_of v.count h) p) v.shelf) [
@@ -164,6 +176,7 @@ shown v p out =
       | Some h ↦ output [] (card_of v.count h) out
     ]
 
+-- a call's answer, and the wallet after it
 abbrev pub wallet_step : Image → Call → Wallet → Step Wallet
 wallet_step image (take_block b) w =
     when_granted (refusal (take_causes image w.view b))
