@@ -22,7 +22,7 @@ abbrev pub number_in : Bytes → ℕ
 number_in [] = 0
 number_in (b ∷ bs) = b + 256 * number_in bs
 
--- the number n in k bytes
+-- the k lowest bytes of the number n: all of it, if it is below 256 ^ k
 abbrev pub number_bytes : ℕ → ℕ → Bytes
 number_bytes zero n = []
 number_bytes (suc k) n = n % 256 ∷ number_bytes k (n / 256)

@@ -1,4 +1,4 @@
--- Slots, the trees over them, and positions.
+-- Slots, the trees over them, and positions. Counts are below 2 ^ 32, so the rows of trees are 0 to 31.
 use Rattle.std.specs.Prelude.{ℕ, zero, suc, ◌+◌, ◌-◌, ◌*◌, ◌/◌, ◌%◌, ◌^◌, Bool, cond, ◌&&◌, List, [], ◌∷◌, map, length, is_some, Some, None, Option, ◌==◌, nat_le, nat_lt, slice_index_or}
 use Rattle.utreexo.specs.declared.types.Coin.{Coin}
 use Rattle.utreexo.specs.declared.types.Value.{Value}
@@ -53,7 +53,7 @@ abbrev pub least_from : ℕ → ℕ → ℕ → ℕ
 least_from zero k n = k
 least_from (suc steps) k n = cond (nat_le n (2 ^ k)) k (least_from steps (suc k) n)
 
--- R: the least number with n ≤ 2 ^ R, which is at most 32
+-- R: the least number with n ≤ 2 ^ R, which is at most 32 for such counts
 abbrev pub rows : ℕ → ℕ
 rows n = least_from 33 0 n
 
@@ -111,7 +111,7 @@ strike (x ∷ xs) o = keep_bit o x (strike xs (o / 2))
 abbrev pub siblings_of : Image → Slots → ℕ → ℕ → List (Option Value)
 siblings_of image s slot k = map (λ j. value_over image s j (sibling (slot / 2 ^ j))) (below k)
 
--- the row of the tree of a slot
+-- the row of the tree of a slot; for one past the count it is of no account
 abbrev pub tree_row : ℕ → ℕ → ℕ
 tree_row n slot = elim (tree_of n (at_node 0 slot)) [ None ↦ 0 | Some k ↦ k ]
 

@@ -83,7 +83,7 @@ tree_joined k l c h =
     (topped (cond ((h.place / 2 ^ length h.path) % 2 == 0) c l) h)
     h
 
--- a tree of row k with the root c comes to the right of the others: while there is one of its row, they are joined
+-- a tree of row k with the root c comes to the right of the others: while there is one of its row, they are joined, so many times at most
 abbrev pub carry : Image → ℕ → ℕ → Option Value → View → View
 carry image zero k c v = record { count = v.count + 1; roots = v.roots; shelf = v.shelf }
 carry image (suc more) k c v =
