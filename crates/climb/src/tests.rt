@@ -16,10 +16,11 @@ fn one_coin_spent(rt: HostRuntime) -> Result<(), Fail> {
     let mut roots = [None; 32];
     roots[0] = Some(Tally::leaf(coin));
     let mut after = AfterValues::empty();
-    let climbed = climb::<Tally>(&targets, &roots, &[], &mut after);
-    assert_eq!(rt; climbed.used, 0);
-    assert!(rt; climbed.fitting);
-    assert_eq!(rt; climbed.roots[0], None);
+    let left = climb::<Tally>(&targets, &roots, &[], &mut after);
+    assert_eq!(rt; left, Some([None; 32]));
+    roots[0] = Some(Tally::pair(Value::default(), Value::default()));
+    let other = climb::<Tally>(&targets, &roots, &[], &mut after);
+    assert_eq!(rt; other, None);
     let twin = after.clone()?;
     assert_eq!(rt; twin.at(0, 0), Some(None));
     assert_eq!(rt; twin.at(0, 1), None);

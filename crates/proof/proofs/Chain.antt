@@ -1,6 +1,8 @@
 -- The check chain: what each layer leaves to the next.
-use Rattle.std.proofs.Common.{◌≡◌, ℕ, ◌≤◌, true, false, not, eqb, ltb, List, [], ◌∷◌, length, Some, None, Option, Ok, Err, Result, IsErrAnd, sym, refl, ap, ◌∙◌, ◌≢◌}
+use Rattle.std.proofs.Common.{◌≡◌, ℕ, ◌≤◌, Bool, true, false, not, eqb, ltb, List, [], ◌∷◌, length, Some, None, Option, Ok, Err, Result, IsErrAnd, sym, refl, ap, ◌∙◌, ◌≢◌}
+use Rattle.std.specs.Bool.{then_some}
 use Rattle.std.proofs.lemmas.Bool.{le-ltb, eq-eqb, ne_eqb}
+use Rattle.std.proofs.lemmas.Option.{none-some}
 use Rattle.refusal.specs.declared.Refusal.{Refusal}
 use Rattle.refusal.specs.Numbers.{number}
 use Rattle.utreexo.specs.declared.types.Coin.{Coin}
@@ -14,6 +16,7 @@ use Rattle.utreexo.specs.Blocks.{Block, ascending}
 use Rattle.utreexo.specs.Checks.{Cause, cause, refusal, named, targets_of, block_proof, above_another, place_causes, blank_over, proof_causes}
 use Rattle.utreexo.specs.Outcomes.{Judged}
 use Rattle.block.specs.Compose.{numbers}
+use Rattle.laws.proofs.Logic.{some_inj}
 use Rattle.laws.proofs.Causes.{free, freed, refusal_some, refusal_none, first_cause}
 use Rattle.targets.specs.declared.placed.Targets.{Targets}
 use Rattle.targets.specs.Targets.{placed, outside, target_causes, Are}
@@ -25,6 +28,16 @@ use Rattle.proof.specs.Accepts.{judge_causes}
 pub passed : {A : Type 0} (causes : List Cause) (P : A → Type 0) (r : Result A Refusal) (e : Refusal) → IsErrAnd r (λ y. y ≡ e) → refusal causes ≡ Some (number e) → Judged causes P r
 passed causes P (Ok a) e h s = absurd h
 passed causes P (Err y) e h s = s ∙ ap (λ (x : Refusal). Some (number x)) (sym h)
+
+-- what a flag and a value make an option of
+module _ {A : Type 0} where
+  pub some_then : (b : Bool) (x y : A) → Some y ≡ then_some b x → (b ≡ true) × (y ≡ x)
+  some_then true x y e = (refl, some_inj y x e)
+  some_then false x y e = absurd (none-some y (sym e))
+
+  pub none_then : (b : Bool) (x : A) → None ≡ then_some b x → b ≡ false
+  none_then true x e = absurd (none-some x e)
+  none_then false x e = refl
 
 module _ (n : ℕ) (b : Block) where
   -- the causes before 8, and 8

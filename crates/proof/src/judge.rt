@@ -10,13 +10,14 @@ use crate::accepted::Accepted;
 use crate::layers::any_under_blank;
 use crate::readable::Block;
 use climb::after::AfterValues;
-use climb::climb::{Climbed, climb};
+use climb::climb::climb;
 use compression::Compression;
 use refusal::Refusal;
 use utreexo::types::Value;
 
 // Checks 4, and 6 to 10, each over the whole block before the next. Where the block is accepted, `after` has what is claimed of each
-// covered place, and what is left there; where it is refused, nothing is said of `after`.
+// covered place, and what is left there; where it is refused, nothing is said of `after`. Kept out of line, so that its stack can be read off a program.
+#[inline(never)]
 pub fn judge<C: Compression>(
     count: u32,
     roots: &[Option<Value>; 32],
@@ -30,17 +31,8 @@ pub fn judge<C: Compression>(
     if any_under_blank(roots, &targets) {
         return Err(Refusal::BlankRoot);
     }
-    let climbed = climb::<C>(&targets, roots, block.hashes(), after);
-    let Climbed {
-        fitting: true,
-        roots: left,
-        ..
-    } = climbed
-    else {
+    let Some(roots) = climb::<C>(&targets, roots, block.hashes(), after) else {
         return Err(Refusal::ProofDoesNotFit);
     };
-    Ok(Accepted {
-        targets,
-        roots: left,
-    })
+    Ok(Accepted { targets, roots })
 }

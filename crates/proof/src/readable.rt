@@ -36,13 +36,6 @@ impl<'a> Block<'a> {
         Ok(Block { bytes, counts })
     }
 
-    // The whole of the block, as it was read.
-    pub fn bytes(&self) -> &'a [u8]
-        ensures { result.now ≡ self.now.bytes.now }
-    {
-        self.bytes
-    }
-
     // How many spent coins, hashes and new coins it has.
     pub fn counts(&self) -> Counts
         ensures { result ≡ counts_in self.now.bytes.now }
@@ -93,7 +86,8 @@ impl<'a> Block<'a> {
         check_ascending(self.positions().as_slice())
     }
 
-    // The targets in a forest of `count` slots: checks 4, and 6 to 8. No compression is worked out.
+    // The targets in a forest of `count` slots: checks 4, and 6 to 8. No compression is worked out. Kept out of line, as `climb` is.
+    #[inline(never)]
     pub fn place(&self, count: u32) -> Result<Targets, Refusal>
         ensures { Judged (cause 4 (not (ascending (entries self.now.bytes.now).targets)) ∷ place_causes count (entries self.now.bytes.now)) (λ t. (t.count ≡ count) × (placed t ≡ targets_of count (entries self.now.bytes.now))) result }
     {

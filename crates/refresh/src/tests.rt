@@ -60,8 +60,8 @@ fn four_slots() -> State {
 fn spent(targets: &Targets, hashes: &[u8]) -> State {
     let mut state = four_slots();
     let mut after = AfterValues::empty();
-    let climbed = climb::<Tally>(targets, &state.roots, hashes, &mut after);
-    spend(&mut state, targets, &after, &climbed.roots);
+    let left = climb::<Tally>(targets, &state.roots, hashes, &mut after);
+    spend(&mut state, targets, &after, &left.unwrap_or(state.roots));
     state
 }
 

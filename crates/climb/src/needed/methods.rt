@@ -59,7 +59,8 @@ impl Needed {
         needed
     }
 
-    // How many they are. In memory the list is as large as three rows, so no list is made to be counted.
+    // How many they are. In memory the list is as large as three rows, so no list is made to be counted. Kept out of line, as `climb` is.
+    #[inline(never)]
     pub fn count(targets: &Targets) -> usize
         ensures { result ≡ length (needed_positions targets.now.count (placed targets.now)) }
     {

@@ -16,7 +16,8 @@ use utreexo::types::{Coin, Position};
 
 impl Targets {
     // The targets at these positions of a forest of `count` slots, each with the coin of the same number. By a rule of the project a block
-    // has its targets and its coins as two lists.
+    // has its targets and its coins as two lists. Kept out of line: in its caller's frame its lists would stand beside those that come after.
+    #[inline(never)]
     pub fn place(count: u32, positions: &[Position], coins: &[Coin]) -> Result<Targets, Refusal>
         ensures { Judged (target_causes count (numbers positions.now) coins.now) (Are count (numbers positions.now) coins.now) result }
     {

@@ -1,4 +1,5 @@
-use Rattle.std.proofs.Common.{◌/◌, ◌^◌, ◌<◌, ◌&&◌, None, ap, ◌∙◌, arith}
+use Rattle.std.proofs.Common.{◌/◌, ◌^◌, ◌<◌, ◌&&◌, None, ap, ◌∙◌, ap₂, arith}
+use Rattle.std.specs.Bool.{then_some}
 use Rattle.std.proofs.lemmas.List.{map-set}
 use Rattle.targets.specs.Targets.{placed}
 use Rattle.targets.proofs.Valid.{valid_is}
@@ -27,6 +28,5 @@ loop-row-preserved g c =
 pub returns : goal.returns
 returns g c =
     let t = c.args.targets.now in
-    let small : t.count < 2 ^ 32 = omega arith in
-    let d = standing_all (valid_is t.count (placed t) small t.valid) c.told-roots c.loop-row.invariant.0 (omega arith) in
-    record { used = d.all_used; fitting = d.all_fit; roots = d.all_roots; after = d.all_told }
+    let d = standing_all (valid_is t.count (placed t) (omega arith) t.valid) c.told-roots c.loop-row.invariant.0 (omega arith) in
+    record { roots = c.then_some.ensures ∙ ap₂ then_some d.all_fit d.all_roots; after = d.all_told }
