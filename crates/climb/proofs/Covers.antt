@@ -5,7 +5,8 @@ use Rattle.laws.proofs.Order.{Mem, From}
 use Rattle.utreexo.specs.Forest.{Node, at_node}
 use Rattle.utreexo.specs.Claims.{Target, beneath, covered}
 use Rattle.targets.proofs.Valid.{Later, Sorted}
-use Rattle.climb.specs.Rows.{front, past, pasts, spot}
+use Rattle.climb.specs.Rows.{front, past}
+use Rattle.climb.proofs.Folded.{pasts, spot}
 use Rattle.laws.proofs.Members.{mem_any, any_mem}
 
 -- a target at or beneath the place

@@ -5,7 +5,8 @@ use Rattle.utreexo.specs.Lists.{below}
 use Rattle.utreexo.specs.Forest.{at_node}
 use Rattle.utreexo.specs.Claims.{Target, covered}
 use Rattle.targets.proofs.Valid.{Valid}
-use Rattle.climb.specs.Rows.{front, pasts, spot, full, ups}
+use Rattle.climb.specs.Rows.{front}
+use Rattle.climb.proofs.Folded.{pasts, spot, full, ups}
 use Rattle.climb.specs.After.{covered_places}
 use Rattle.laws.proofs.Members.{map_mem, mem_map, mem_filter, filter_mem}
 use Rattle.laws.proofs.Ordered.{from_weaker, filter_from, same_list}

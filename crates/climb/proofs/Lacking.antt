@@ -12,7 +12,8 @@ use Rattle.place.specs.Nodes.{inside}
 use Rattle.laws.proofs.Order.{Mem}
 use Rattle.laws.proofs.Members.{all_mem, map_mem}
 use Rattle.targets.proofs.Inside.{inside_tree}
-use Rattle.climb.specs.Rows.{top, beside, sib, lones, full, absent, numbers, wanted}
+use Rattle.climb.specs.Rows.{top, beside, sib, lones}
+use Rattle.climb.proofs.Folded.{full, absent, numbers, wanted}
 use Rattle.climb.specs.Entries.{entry}
 use Rattle.climb.specs.Needed.{numbered, places}
 use Rattle.climb.proofs.Wanted.{absent_is, lacks_in, needed_is}

@@ -1,5 +1,6 @@
 pub mod Chunks
 mod Lists
+pub mod Folded
 mod Walk
 mod Merged
 pub mod Covers

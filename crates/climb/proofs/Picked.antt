@@ -7,7 +7,7 @@ use Rattle.laws.proofs.Order.{Mem, From}
 use Rattle.utreexo.specs.Forest.{position}
 use Rattle.utreexo.specs.Claims.{Target, needed, pick, no_value, Proof, proof_of}
 use Rattle.targets.proofs.Valid.{Valid}
-use Rattle.climb.specs.Rows.{used, absent, numbers, wanted}
+use Rattle.climb.proofs.Folded.{used, absent, numbers, wanted}
 use Rattle.laws.proofs.Ordered.{from_mem}
 use Rattle.climb.proofs.Wanted.{wanted_from, needed_is}
 

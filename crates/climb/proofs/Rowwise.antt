@@ -9,13 +9,13 @@ use Rattle.utreexo.specs.Lists.{below, any}
 use Rattle.utreexo.specs.Forest.{at_node, bit, tree_place}
 use Rattle.utreexo.specs.Claims.{Target, covered, target_at, Proof, proof_of, given, claim_at, claimed, after, root_claim, root_covered, fits_root, root_after}
 use Rattle.targets.proofs.Valid.{Valid}
-use Rattle.climb.specs.Rows.{stepped, top, front, pasts, spot, full, carried, used, merge, left_of, spent_item, step, met, renew}
+use Rattle.climb.specs.Rows.{stepped, top, front, merge, left_of, spent_item, step, met, renew}
+use Rattle.climb.proofs.Folded.{pasts, spot, full, carried, used, absent}
 use Rattle.laws.proofs.Members.{mem_map}
 use Rattle.climb.proofs.Walk.{top_is, is_top, mem_ups}
 use Rattle.climb.proofs.Merged.{merge_map}
 use Rattle.climb.proofs.Covers.{Under, covered_under, under_covered, under_up, mem_at_row, at_row_mem}
 use Rattle.climb.proofs.Full.{is, parted}
-use Rattle.climb.specs.Rows.{absent}
 use Rattle.climb.proofs.Wanted.{absent_is}
 use Rattle.climb.proofs.Picked.{Fits, row_fits}
 use Rattle.climb.specs.Entries.{entry}

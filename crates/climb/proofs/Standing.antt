@@ -9,7 +9,8 @@ use Rattle.utreexo.specs.Values.{Image}
 use Rattle.utreexo.specs.Lists.{below, any}
 use Rattle.utreexo.specs.Claims.{Target, proof_of, needed, fits_root, fits, root_after}
 use Rattle.targets.proofs.Valid.{Valid}
-use Rattle.climb.specs.Rows.{front, past, pasts, full, carried, used, merge, left_of, Stepped, stepped, spent_item, step, met, renew}
+use Rattle.climb.specs.Rows.{front, past, merge, left_of, Stepped, stepped, spent_item, step, met, renew}
+use Rattle.climb.proofs.Folded.{pasts, full, carried, used}
 use Rattle.climb.specs.After.{covered_places}
 use Rattle.climb.specs.Entries.{entry}
 use Rattle.laws.proofs.Ranges.{length_map_below}

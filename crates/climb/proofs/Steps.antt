@@ -6,7 +6,8 @@ use Rattle.climb.specs.declared.item.Item.{Item}
 use Rattle.laws.proofs.Order.{Mem, From}
 use Rattle.utreexo.specs.Values.{Image}
 use Rattle.utreexo.specs.Claims.{Proof, no_value, given, both, claim_at}
-use Rattle.climb.specs.Rows.{top, beside, ups, lones, sib, Stepped, stepped, before, twin, lone, step}
+use Rattle.climb.specs.Rows.{top, beside, lones, sib, Stepped, stepped, before, twin, lone, step}
+use Rattle.climb.proofs.Folded.{ups}
 use Rattle.climb.proofs.Walk.{walk, alone, beside_is, top_is, ups_root, ups_pair, ups_lone, lones_root, lones_pair, lones_lone}
 use Rattle.climb.specs.Entries.{entry}
 use Rattle.climb.specs.Held.{alone_item}

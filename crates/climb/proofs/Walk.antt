@@ -2,7 +2,8 @@
 use Rattle.std.proofs.Common.{◌≡◌, ℕ, suc, ◌+◌, ◌*◌, ◌/◌, ◌%◌, ◌<◌, ◌≤◌, Bool, true, false, cond, not, eqb, ◌⊎◌, List, [], ◌∷◌, sym, refl, ap, ◌∙◌, subst, inl, inr, arith}
 use Rattle.std.proofs.lemmas.Bool.{eqb-true, eqb-false, eq-eqb, and_parts, and_cases, and_from, cases_eq}
 use Rattle.laws.proofs.Order.{Mem, From}
-use Rattle.climb.specs.Rows.{top, beside, ups, lones, sib}
+use Rattle.climb.specs.Rows.{top, beside, lones, sib}
+use Rattle.climb.proofs.Folded.{ups}
 use Rattle.laws.proofs.Ordered.{from_mem, from_weaker}
 
 -- the place after x and its right sibling

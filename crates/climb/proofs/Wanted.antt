@@ -6,7 +6,8 @@ use Rattle.utreexo.specs.Lists.{below}
 use Rattle.utreexo.specs.Forest.{Node, at_node, tree_of, locate, position, rows, sibling}
 use Rattle.utreexo.specs.Claims.{Target, covered, is_needed, needed_at, needed}
 use Rattle.targets.proofs.Valid.{Valid}
-use Rattle.climb.specs.Rows.{full, sib, absent, numbers, wanted}
+use Rattle.climb.specs.Rows.{sib}
+use Rattle.climb.proofs.Folded.{full, absent, numbers, wanted}
 use Rattle.laws.proofs.Ordered.{same_list, from_weaker, filter_from}
 use Rattle.climb.proofs.Lists.{from_append}
 use Rattle.laws.proofs.Members.{filter_mem, mem_filter, mem_append, append_mem_left, append_mem_right, map_mem, mem_map}

@@ -1,10 +1,9 @@
--- One row's step up, and the fold over the rows: what the code computes, on lists.
-use Rattle.std.specs.Prelude.{ℕ, zero, suc, ◌+◌, ◌-◌, ◌*◌, ◌/◌, ◌%◌, ◌^◌, Bool, true, false, cond, ◌&&◌, List, [], ◌∷◌, ◌++◌, map, length, Some, None, Option, ◌==◌, nat_lt, slice_index_or}
+-- One row's step up: what the code computes, on lists.
+use Rattle.std.specs.Prelude.{ℕ, ◌+◌, ◌-◌, ◌*◌, ◌/◌, ◌%◌, Bool, true, false, cond, ◌&&◌, List, [], ◌∷◌, Some, None, Option, ◌==◌, nat_lt, slice_index_or}
 use Rattle.utreexo.specs.declared.types.Value.{Value}
 use Rattle.climb.specs.declared.item.Item.{Item}
 use Rattle.utreexo.specs.declared.types.Input.TheVariants.{Leaf, Pair}
 use Rattle.utreexo.specs.Values.{Image, join, same_value}
-use Rattle.utreexo.specs.Forest.{position}
 use Rattle.utreexo.specs.Claims.{Target, no_value}
 
 -- place o is the root of its tree, in a row of w places
@@ -14,12 +13,6 @@ top w o = w % 2 == 1 && o + 1 == w
 -- q is the right sibling of o
 abbrev pub beside : ℕ → ℕ → Bool
 beside o q = o % 2 == 0 && q == o + 1
-
--- the places above those that are no root
-abbrev pub ups : ℕ → List ℕ → List ℕ
-ups w [] = []
-ups w (x ∷ []) = cond (top w x) [] (x / 2 ∷ [])
-ups w (x ∷ (y ∷ ys)) = cond (top w x) (ups w (y ∷ ys)) (cond (beside x y) (x / 2 ∷ ups w ys) (x / 2 ∷ ups w (y ∷ ys)))
 
 -- the sibling as plain arithmetic, which proofs compute with: it is the Forest's (sibling_is in proofs/Wanted)
 abbrev pub sib : ℕ → ℕ
@@ -49,40 +42,6 @@ front r (t ∷ ts) = cond (t.node.row == r) (t ∷ front r ts) []
 abbrev pub past : ℕ → List Target → List Target
 past r [] = []
 past r (t ∷ ts) = cond (t.node.row == r) (past r ts) (t ∷ ts)
-
--- what is left of the targets at row r
-abbrev pub pasts : ℕ → List Target → List Target
-pasts zero ts = ts
-pasts (suc r) ts = past r (pasts r ts)
-
-abbrev pub spot : Target → ℕ
-spot t = t.node.place
-
--- the covered places of row r, of the forest of n slots
-abbrev pub full : ℕ → List Target → ℕ → List ℕ
-full n ts zero = map spot (front 0 ts)
-full n ts (suc r) = merge nat_lt (ups (n / 2 ^ r) (full n ts r)) (map spot (front (suc r) (pasts (suc r) ts)))
-
--- the places that come from the row below
-abbrev pub carried : ℕ → List Target → ℕ → List ℕ
-carried n ts zero = []
-carried n ts (suc r) = ups (n / 2 ^ r) (full n ts r)
-
--- how many hashes the rows below row r take
-abbrev pub used : ℕ → List Target → ℕ → ℕ
-used n ts zero = 0
-used n ts (suc r) = used n ts r + length (lones (n / 2 ^ r) (full n ts r))
-
--- the siblings missing in row r, their numbers, and those of f rows from row r on
-abbrev pub absent : ℕ → List Target → ℕ → List ℕ
-absent n ts r = lones (n / 2 ^ r) (full n ts r)
-
-abbrev pub numbers : ℕ → List Target → ℕ → List ℕ
-numbers n ts r = map (position n r) (absent n ts r)
-
-abbrev pub wanted : ℕ → List Target → ℕ → ℕ → List ℕ
-wanted n ts r zero = []
-wanted n ts r (suc f) = numbers n ts r ++ wanted n ts (suc r) f
 
 -- items: places with what is claimed there, and what is left ----------------------
 
@@ -141,8 +100,3 @@ renew (Some x) v = x.left
 abbrev pub lookup : List Item → ℕ → Option Item
 lookup [] o = None
 lookup (x ∷ xs) o = cond (x.place == o) (Some x) (lookup xs o)
-
--- a path's hash beside an item, or beside none
-abbrev pub fresh : Option Item → Value → Option Value
-fresh None v = Some v
-fresh (Some x) v = x.left

@@ -9,7 +9,7 @@ use Rattle.utreexo.specs.Checks.{Cause, cause, targets_of, block_proof, place_ca
 use Rattle.targets.specs.Targets.{placed}
 use Rattle.proof.specs.declared.accepted.Accepted.{Accepted}
 
--- the causes 4, and 6 to 10, which all calls that judge a block have
+-- the causes 4, and 6 to 10, which a wallet's calls and the challenge have
 abbrev pub judge_causes : Image → ℕ → List (Option Value) → Block → List Cause
 judge_causes image n roots b = cause 4 (not (ascending b.targets)) ∷ place_causes n b ++ proof_causes image n roots b
 

@@ -3,7 +3,8 @@ use Rattle.utreexo.specs.Values.{Image}
 use Rattle.utreexo.specs.Claims.{no_value}
 use Rattle.targets.specs.Targets.{placed}
 use Rattle.targets.proofs.Valid.{valid_is}
-use Rattle.climb.specs.Rows.{step, used}
+use Rattle.climb.specs.Rows.{step}
+use Rattle.climb.proofs.Folded.{used}
 use Rattle.climb.specs.Held.{hashes_in}
 use Rattle.climb.proofs.Standing.{rising_more}
 use Rattle.climb.proofs.Picked.{used_all}
