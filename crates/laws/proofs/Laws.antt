@@ -5,7 +5,7 @@ use Rattle.utreexo.specs.Forest.{at_node, tree_of, tree_place}
 use Rattle.utreexo.specs.Claims.{no_value}
 use Rattle.utreexo.specs.Wallet.{Held}
 use Rattle.utreexo.specs.Collection.{slot_held, image_of}
-use Rattle.laws.specs.Laws.{OnePosition, InsideExactly, LivePositions, RootValues, NeededFew}
+use Rattle.laws.specs.Laws.{RowsLeast, OnePosition, InsideExactly, LivePositions, RootValues, NeededFew}
 use Rattle.laws.proofs.Logic.{ltb_cases, LtbCases}
 use Rattle.laws.proofs.Place.{up}
 use Rattle.laws.proofs.Places.{up_shr}
@@ -15,10 +15,14 @@ use Rattle.laws.proofs.Forest.{top_row_of, row_of_tree, slot_of}
 use Rattle.laws.proofs.After.{value_grow}
 use Rattle.laws.proofs.Tops.{Over, top_row}
 use Rattle.laws.proofs.Strikes.{inp, img, value_same}
-use Rattle.laws.proofs.Positions.{bit_top, tree_over, over_tree, over_in_row, locate_at, locate_is, same_position}
+use Rattle.laws.proofs.Positions.{rows_ok, rows_low, bit_top, tree_over, over_tree, over_in_row, locate_at, locate_is, same_position}
 use Rattle.laws.proofs.Live.{LiveAt, slot_held_live_at, live_over, live_once, slot_make}
 use Rattle.laws.proofs.Own.{own_same}
 use Rattle.laws.proofs.Count.{needed_few}
+
+-- R is least
+pub rows_least : RowsLeast (2 ^ 32)
+rows_least n small = (rows_ok n small, rows_low n)
 
 -- a place is found by its position, and what is found there has that position
 pub one_position : OnePosition (2 ^ 32)

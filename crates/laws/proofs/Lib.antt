@@ -34,6 +34,7 @@ pub mod Positions
 pub mod Claiming
 pub mod Live
 pub mod Own
+mod Beneath
 pub mod Needed
 pub mod Fits
 pub mod Genuine

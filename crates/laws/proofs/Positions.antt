@@ -4,7 +4,7 @@ use native.Mathlib.Nat.{sub-zero}
 use Rattle.std.proofs.lemmas.Bool.{eq-eqb, eqb-true, le-leb, leb-true, lt-ltb, le-ltb, and_parts, and_from}
 use Rattle.utreexo.specs.Lists.{below}
 use Rattle.utreexo.specs.Forest.{Node, at_node, bit, tree_place, in_tree, tree_of, least_from, rows, position, row_from, if_inside, locate, tree_row}
-use Rattle.laws.proofs.Logic.{never, eqb_cases, some_inj}
+use Rattle.laws.proofs.Logic.{never, true_false, eqb_cases, some_inj}
 use Rattle.laws.proofs.Members.{first_some, first_only}
 use Rattle.laws.proofs.Ranges.{below_mem}
 use Rattle.laws.proofs.Place.{up}
@@ -98,6 +98,24 @@ least_ok (suc fuel) k n l = go (leb n (2 ^ k)) refl (least_ok fuel (suc k) n (le
 
 pub rows_ok : (n : ℕ) → n < 2 ^ 32 → n ≤ 2 ^ rows n
 rows_ok n l = least_ok 33 0 n (omega arith)
+
+-- and no fewer are
+least_low : (fuel k n m : ℕ) → k ≤ m → n ≤ 2 ^ m → least_from fuel k n ≤ m
+least_low zero k n m l e = l
+least_low (suc fuel) k n m l e = go (leb n (2 ^ k)) refl (λ h. least_low fuel (suc k) n m h e)
+  where
+    higher : leb n (2 ^ k) ≡ false → suc k ≤ m
+    higher f = elim (eqb_cases k m) [
+      | inl q ↦ let w : n ≤ 2 ^ k = (let z = q.1 in rw z e) in absurd (true_false (leb n (2 ^ k)) (le-leb n (2 ^ k) w) f)
+      | inr q ↦ let z = q.1 in omega arith
+    ]
+
+    go : (b : Bool) → leb n (2 ^ k) ≡ b → (suc k ≤ m → least_from fuel (suc k) n ≤ m) → cond b k (least_from fuel (suc k) n) ≤ m
+    go true f ih = l
+    go false f ih = ih (higher f)
+
+pub rows_low : (n k : ℕ) → n ≤ 2 ^ k → rows n ≤ k
+rows_low n k e = least_low 33 0 n k (omega arith) e
 
 -- the number of the first place of row r, of R rows above the slots
 abbrev base : ℕ → ℕ → ℕ

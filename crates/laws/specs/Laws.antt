@@ -2,11 +2,16 @@
 -- the bound 2 ^ 32. The last has this bound in itself, and another parameter.
 use Rattle.std.specs.Prelude.{◌≡◌, ℕ, ◌*◌, ◌/◌, ◌^◌, ◌<◌, ◌≤◌, true, List, [], ◌∷◌, length, is_some, Some, None, nat_lt, slice_index_or}
 use Rattle.utreexo.specs.declared.types.Coin.{Coin}
+use Rattle.utreexo.specs.declared.types.Input.{Input}
 use Rattle.utreexo.specs.Values.{Image}
-use Rattle.utreexo.specs.Forest.{Slots, Node, at_node, bit, tree_place, tree_of, position, locate, value_over}
-use Rattle.utreexo.specs.Claims.{Target, needed}
+use Rattle.utreexo.specs.Forest.{Slots, Node, at_node, rows, bit, tree_place, tree_of, position, locate, value_over}
+use Rattle.utreexo.specs.Claims.{Target, beneath, needed}
 use Rattle.utreexo.specs.Wallet.{position_of}
-use Rattle.utreexo.specs.Collection.{slot_held, slot_at, value_at, fresh}
+use Rattle.utreexo.specs.Collection.{slot_held, slot_at, own_input, value_at, fresh}
+
+-- R is the least row in which one place spans all slots
+abbrev pub RowsLeast : ℕ → Type 0
+RowsLeast bound = (n : ℕ) → n < bound → (n ≤ 2 ^ rows n) × ((k : ℕ) → n ≤ 2 ^ k → rows n ≤ k)
 
 -- a place of the forest is found by its position, and what is found at a position has that position
 abbrev pub OnePosition : ℕ → Type 0
@@ -25,6 +30,23 @@ LivePositions bound = (image : Image) (s : Slots) → length s < bound → (i : 
     (locate (length s) (position_of (length s) h) ≡ Some (at_node h.row h.place))
     × (slot_at image s (at_node h.row h.place) ≡ Some i)
     × ((j : ℕ) (e : Coin) → slice_index_or s j None ≡ Some e → position_of (length s) (slot_held image s j e) ≡ position_of (length s) h → j ≡ i)
+
+-- where a live slot's coin is
+abbrev pub where_is : Image → Slots → ℕ → Coin → Node
+where_is image s i c = let h = slot_held image s i c in at_node h.row h.place
+
+-- no live slot's position is above another's: beneath a live slot's position, or at it, is no other's
+abbrev pub PositionsApart : ℕ → Type 0
+PositionsApart bound = (image : Image) (s : Slots) → length s < bound → (i j : ℕ) (c e : Coin) → slice_index_or s i None ≡ Some c → slice_index_or s j None ≡ Some e →
+    beneath (where_is image s i c) (where_is image s j e) ≡ true → i ≡ j
+
+-- a place of the forest has an own input exactly if some live slot's position lies there or beneath
+abbrev pub InputsOverCoins : ℕ → Type 0
+InputsOverCoins bound = (image : Image) (s : Slots) → length s < bound → (r o k : ℕ) → tree_of (length s) (at_node r o) ≡ Some k →
+    ((x : Input) → own_input image s r o ≡ Some x →
+    (i : ℕ) × (c : Coin) × (slice_index_or s i None ≡ Some c) × (beneath (where_is image s i c) (at_node r o) ≡ true))
+    × ((i : ℕ) (c : Coin) → slice_index_or s i None ≡ Some c → beneath (where_is image s i c) (at_node r o) ≡ true →
+    is_some (own_input image s r o) ≡ true)
 
 -- the value at a root position is the value over the tree, which is the root
 abbrev pub RootValues : ℕ → Type 0

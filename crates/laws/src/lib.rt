@@ -3,7 +3,12 @@
 #![tactic(auto)]
 
 ghost use Rattle.std.specs.Prelude.{◌^◌};
-ghost use Rattle.laws.specs.Laws.{OnePosition, InsideExactly, LivePositions, RootValues, PathsFresh, NeededFew};
+ghost use Rattle.laws.specs.Laws.{RowsLeast, OnePosition, InsideExactly, LivePositions, PositionsApart, InputsOverCoins, RootValues, PathsFresh, NeededFew};
+
+// R is the least number with count <= 2^R.
+pub fn rows_least()
+    ensures { RowsLeast (2 ^ 32) }
+{}
 
 // A place has one position, and a position one place.
 pub fn one_position()
@@ -18,6 +23,16 @@ pub fn inside_exactly()
 // A live slot has one position in the forest, and distinct slots have distinct ones.
 pub fn live_positions()
     ensures { LivePositions (2 ^ 32) }
+{}
+
+// No coin's position is above another coin's.
+pub fn positions_apart()
+    ensures { PositionsApart (2 ^ 32) }
+{}
+
+// A position has an own input exactly where a coin lies at it or beneath it.
+pub fn inputs_over_coins()
+    ensures { InputsOverCoins (2 ^ 32) }
 {}
 
 // The value at a root position is the value over the tree.

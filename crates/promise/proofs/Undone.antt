@@ -1,5 +1,5 @@
 -- A block undone: cut back to the count, and what was blanked refilled.
-use Rattle.std.proofs.Common.{◌≡◌, ℕ, ◌<◌, true, cond, ◌⊎◌, List, [], ◌∷◌, map, length, get_or, set, Some, None, sym, refl, ap, ◌∙◌, inl, inr, arith, length-set, get_or-set_other, get_or-set_same, take_at, ext_get_or}
+use Rattle.std.proofs.Common.{◌≡◌, ℕ, ◌<◌, true, cond, ◌⊎◌, List, [], ◌∷◌, map, length, get_or, set, Some, None, Option, sym, refl, ap, ◌∙◌, inl, inr, arith, length-set, get_or-set_other, get_or-set_same, take_at, ext_get_or}
 use Rattle.std.proofs.lemmas.List.{get_or_past}
 use Rattle.std.proofs.lemmas.Bool.{cases_lt, cases_eq, cases_Bool}
 use Rattle.utreexo.specs.declared.types.Coin.{Coin}
@@ -9,10 +9,11 @@ use Rattle.utreexo.specs.Values.{Image}
 use Rattle.utreexo.specs.Forest.{Slots}
 use Rattle.utreexo.specs.Claims.{Target}
 use Rattle.utreexo.specs.Blocks.{entries}
-use Rattle.utreexo.specs.Checks.{targets_of}
+use Rattle.utreexo.specs.Checks.{refusal, granted, when_granted, push, targets_of}
 use Rattle.utreexo.specs.Collection.{spent_slot, slots_after, slots_named}
-use Rattle.utreexo.specs.Bridge.{undo_of, refilled, undone}
+use Rattle.utreexo.specs.Bridge.{undo_of, refilled, undone, Bridge, bridge_take_causes, bridge_take, bridge_take_back, bridge_step}
 use Rattle.laws.proofs.Order.{Mem}
+use Rattle.promise.proofs.Outcomes.{granted_refused}
 use Rattle.laws.proofs.Members.{mem_filter, filter_mem}
 use Rattle.laws.proofs.Ranges.{below_mem}
 use Rattle.laws.proofs.Slots.{slot_low, left, length_left, left_at, slot_coin, spent_live}
@@ -67,3 +68,19 @@ module _ (image : Image) (s : Slots) (bs : Bytes) where
           | inr e ↦ inl (left_at image s ts i l ∙ ap (λ b. cond b None (get_or s i None)) e)
         ])
       ]
+
+-- so does a bridge that takes the block and takes it back
+module _ (image : Image) (b : Bytes) (g : Bridge) where
+  pub taken_back : (bridge_step image (bridge_take b) g).answer ≡ granted []
+      → ((bridge_step image bridge_take_back (bridge_step image (bridge_take b) g).state).answer ≡ granted [])
+      × ((bridge_step image bridge_take_back (bridge_step image (bridge_take b) g).state).state.slots ≡ g.slots)
+  taken_back = go (refusal (bridge_take_causes image g.capacity g.slots b))
+    where
+      after : Bridge
+      after = record { capacity = g.capacity; slots = slots_after image b g.slots; marks = push 64 (undo_of image g.slots b) g.marks }
+
+      go : (d : Option ℕ) → (when_granted d after g).answer ≡ granted []
+          → ((bridge_step image bridge_take_back (when_granted d after g).state).answer ≡ granted [])
+          × ((bridge_step image bridge_take_back (when_granted d after g).state).state.slots ≡ g.slots)
+      go None e = (refl, undone_after image g.slots b)
+      go (Some k) e = absurd (granted_refused [] k (sym e))

@@ -13,7 +13,7 @@ use Rattle.utreexo.specs.Checks.{Cause, refusal, granted, over, read_causes, tar
 use Rattle.utreexo.specs.Wallet.{Held, position_of, card_of, on_shelf, view_after, take_causes, Wallet, Call, take_block, watch, wallet_step}
 use Rattle.utreexo.specs.Collection.{held_at, view_of, spent_slot, slots_after, block_for, write}
 use Rattle.utreexo.specs.Register.{Register, register_step}
-use Rattle.utreexo.specs.Bridge.{BridgeCall, bridge_take, bridge_step, as_call, GivenOctets}
+use Rattle.utreexo.specs.Bridge.{Bridge, BridgeCall, bridge_take, bridge_step, as_call, GivenOctets}
 use Rattle.utreexo.specs.Promise.{run, wallet_run, bridge_run, Agreed, standing, block_of, CaughtAt}
 
 -- Runs -----------------------------------------------------------------------------------
@@ -68,6 +68,12 @@ BridgeTakes So = (image : Image) → So image → (capacity : ℕ) (fed : List B
     let g = (bridge_run image capacity fed).state in
     (ps : List ℕ) (cs : List Coin) (out wrote : Bytes) → write image g.slots ps cs out ≡ granted wrote → length g.slots + length cs ≤ capacity →
     (bridge_step image (bridge_take (composed (block_for image g.slots ps cs))) g).answer ≡ granted []
+
+-- from any bridge, this call undoes a block that was taken: it is granted, and the slots after it are those before the block
+abbrev pub TakenBack : BridgeCall → Type 0
+TakenBack undoing = (image : Image) (g : Bridge) (b : Bytes) → (bridge_step image (bridge_take b) g).answer ≡ granted [] →
+    let back = bridge_step image undoing (bridge_step image (bridge_take b) g).state in
+    (back.answer ≡ granted []) × (back.state.slots ≡ g.slots)
 
 -- a block that a bridge writes, of such new coins, reads as the block that was asked for
 abbrev pub BridgeWrites : (Coin → Type 0) → Type 0

@@ -8,10 +8,10 @@ ghost use Rattle.utreexo.specs.Values.{Image, CoinFits, ImageFits};
 ghost use Rattle.utreexo.specs.Checks.{read_causes};
 ghost use Rattle.utreexo.specs.Wallet.{Wallet, Call, new_wallet, wallet_step};
 ghost use Rattle.utreexo.specs.Register.{new_register, register_take_causes};
-ghost use Rattle.utreexo.specs.Bridge.{GivenOctets};
+ghost use Rattle.utreexo.specs.Bridge.{bridge_take_back, GivenOctets};
 ghost use Rattle.utreexo.specs.Promise.{Agreed, ServedWhere, Faithful};
 ghost use Rattle.promise.specs.Agreement.{Keeps};
-ghost use Rattle.promise.specs.Theorems.{Parting, OneToOne, AlwaysAgreed, BlocksStep, CardsWatched, BridgeTakes, BridgeWrites, ReadBack, WriteBack};
+ghost use Rattle.promise.specs.Theorems.{Parting, OneToOne, AlwaysAgreed, BlocksStep, CardsWatched, BridgeTakes, TakenBack, BridgeWrites, ReadBack, WriteBack};
 
 // Wallet and collection cannot part without leaving evidence, and until they do, a bridge serves the wallet.
 pub fn wallet_is_faithful()
@@ -56,6 +56,11 @@ pub fn cards_watched()
 // A bridge takes what it wrote, where it has the capacity.
 pub fn bridge_takes()
     ensures { BridgeTakes ImageFits }
+{}
+
+// A bridge that takes a block and takes it back has the slots that it had.
+pub fn taken_back()
+    ensures { TakenBack bridge_take_back }
 {}
 
 // What a bridge writes reads as the block that was asked for.
