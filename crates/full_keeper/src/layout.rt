@@ -40,7 +40,10 @@ pub(crate) fn update_path<C: Compression>(
         if !run.is_within(count) {
             break;
         }
-        let (left, right) = run.halves();
+        // It has a row below, so there are halves.
+        let Some((left, right)) = run.halves() else {
+            break;
+        };
         let left = table[index_of(rows, left)];
         let right = table[index_of(rows, right)];
         table[index_of(rows, run)] = join::<C>(left, right);

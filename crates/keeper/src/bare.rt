@@ -26,10 +26,9 @@ fn value_over<C: Compression>(slots: &[Option<Coin>], run: Run) -> Option<Value>
     requires { run.place < length slots.now / 2 ^ run.row }
     ensures { result ≡ value_over C.Compression.image slots.now run.row run.place }
 {
-    if run.row == 0 {
+    let Some((left, right)) = run.halves() else {
         return leaf_value::<C>(slots[run.place as usize]);
-    }
-    let (left, right) = run.halves();
+    };
     let left = value_over::<C>(slots, left);
     let right = value_over::<C>(slots, right);
     join::<C>(left, right)

@@ -1,5 +1,5 @@
 // Runs of slots: 2^row of them, aligned, at a place of their row.
-ghost use Rattle.std.specs.Prelude.{◌≡◌, ◌+◌, ◌-◌, ◌*◌, ◌^◌, ◌<◌};
+ghost use Rattle.std.specs.Prelude.{◌≡◌, ◌+◌, ◌-◌, ◌*◌, ◌^◌, ◌<◌, ◌≤◌, ◌⊎◌, MatchOption};
 ghost use Rattle.utreexo.specs.Forest.{leaf_value};
 ghost use Rattle.keeper.specs.Calls.{run_within};
 
@@ -21,20 +21,18 @@ impl Run {
         self.row < 32 && self.place < (count >> self.row) as u64
     }
 
-    // The left half of a run, and the right one.
-    pub fn halves(self) -> (Run, Run)
-        requires { (0 < self.row) × (self.place < 2 ^ 63) }
-        ensures left { result.0 ≡ record { row = self.row - 1; place = 2 * self.place } }
-        ensures right { result.1 ≡ record { row = self.row - 1; place = 2 * self.place + 1 } }
+    // The left half of a run, and the right one; None for a run of one slot, and where the places of the halves pass 64 bits.
+    pub fn halves(self) -> Option<(Run, Run)>
+        ensures { MatchOption result ((self.row ≡ 0) ⊎ (2 ^ 63 ≤ self.place)) (λ h. (0 < self.row) × (h.0 ≡ record { row = self.row - 1; place = 2 * self.place }) × (h.1 ≡ record { row = self.row - 1; place = 2 * self.place + 1 })) }
     {
-        let row = self.row - 1;
-        let place = 2 * self.place;
+        let row = self.row.checked_sub(1)?;
+        let place = self.place.checked_mul(2)?;
         let left = Run { row, place };
         let right = Run {
             row,
             place: place + 1,
         };
-        (left, right)
+        Some((left, right))
     }
 }
 

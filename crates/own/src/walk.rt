@@ -38,13 +38,20 @@ impl Way {
     // Where one half of a run is blank the other takes its place, and no bit of the node's place is used; where both are not, the next bit
     // tells which. One question a row would not do: the answer for one half does not tell whether the other is blank. So it is two a row, and
     // no value is worked out here.
-    fn step<C: Compression, K: Keeper<C>>(self, keeper: &K, place: u32) -> Step
+    fn step<C: Compression, K: Keeper<C>>(
+        self,
+        keeper: &K,
+        left: Run,
+        right: Run,
+        place: u32,
+    ) -> Step
         requires high { 0 < self.run.row }
+        requires left { left ≡ record { row = self.run.row - 1; place = 2 * self.run.place } }
+        requires right { right ≡ record { row = self.run.row - 1; place = 2 * self.run.place + 1 } }
         requires within { self.run.place < length (K.Keeper.slots keeper.now) / 2 ^ self.run.row }
         requires few { self.bits < 33 }
         ensures { result ≡ step_by C.Compression.image (K.Keeper.slots keeper.now) self place }
     {
-        let (left, right) = self.run.halves();
         let values = (
             value_over::<C, K>(keeper, left),
             value_over::<C, K>(keeper, right),
@@ -77,8 +84,8 @@ pub(crate) fn walk<C: Compression, K: Keeper<C>>(keeper: &K, node: Node) -> Opti
         },
         bits: row - node.row,
     };
-    while way.run.row > 0 {
-        match way.step::<C, K>(keeper, node.place) {
+    while let Some((left, right)) = way.run.halves() {
+        match way.step::<C, K>(keeper, left, right, node.place) {
             Step::Nothing => return None,
             Step::Pair { left, right } => {
                 return Some(Found {

@@ -22,7 +22,7 @@ slice_copy_out-left g c =
     let r = c.loop-row.row in
     let o : ℕ = c.args.slot / 2 ^ r in
     let h = halves n r o (omega arith) (run_true n r o c.if-not-is_within.ensures) in
-    rw (c.index_of.ensures, c.halves.ensures.left) (has_entry n c.rows-rows.result (r - 1) (2 * o) (length c.loop-row.table) c.loop-row.invariant.fit (omega arith))
+    rw (c.index_of.ensures, c.in-Some.ensures.1) (has_entry n c.rows-rows.result (r - 1) (2 * o) (length c.loop-row.table) c.loop-row.invariant.fit (omega arith))
 
 pub slice_copy_out-right : goal.slice_copy_out-right
 slice_copy_out-right g c =
@@ -30,7 +30,7 @@ slice_copy_out-right g c =
     let r = c.loop-row.row in
     let o : ℕ = c.args.slot / 2 ^ r in
     let h = halves n r o (omega arith) (run_true n r o c.if-not-is_within.ensures) in
-    rw (c.index_of-in-loop-row.ensures, c.halves.ensures.right) (has_entry n c.rows-rows.result (r - 1) (2 * o + 1) (length c.loop-row.table) c.loop-row.invariant.fit h)
+    rw (c.index_of-in-loop-row.ensures, c.in-Some.ensures.2) (has_entry n c.rows-rows.result (r - 1) (2 * o + 1) (length c.loop-row.table) c.loop-row.invariant.fit h)
 
 pub bounds-table-index_of : goal.bounds-table-index_of
 bounds-table-index_of g c =
@@ -48,7 +48,7 @@ loop-row-preserved g c =
       fit = simp length-set c.loop-row.invariant.fit;
       stored = λ was.
           stored_node g.C.Compression.image s c.rows-rows.result c.loop-row.table c.args.slot c.join.result c.loop-row.invariant.fit r _ _ _ (omega arith)
-          (run_true (length s) r (c.args.slot / 2 ^ r) c.if-not-is_within.ensures) c.halves.ensures.left c.halves.ensures.right c.index_of.ensures c.index_of-in-loop-row.ensures
+          (run_true (length s) r (c.args.slot / 2 ^ r) c.if-not-is_within.ensures) c.in-Some.ensures.1 c.in-Some.ensures.2 c.index_of.ensures c.index_of-in-loop-row.ensures
           c.index_of-in-loop-row-2.ensures c.join.ensures (c.loop-row.invariant.stored was);
     }
 
@@ -64,12 +64,12 @@ returns-then-not-is_within g c =
     stored_rest g.C.Compression.image s c.rows-rows.result c.args.table.now c.loop-row.table c.args.slot r c.rows-rows.ensures.value c.loop-row.invariant.stored
     (run_false (length s) r (c.args.slot / 2 ^ r) c.if-not-is_within.ensures)
 
-pub returns-else-not-is_within : goal.returns-else-not-is_within
-returns-else-not-is_within g c =
+pub returns-in-Some : goal.returns-in-Some
+returns-in-Some g c =
     let s = c.args.slots.now in
     let r = c.loop-row.row in
     stored_top g.C.Compression.image s c.rows-rows.result c.args.table.now _ c.args.slot (r + 1) c.rows-rows.ensures.value
     (λ was.
     stored_node g.C.Compression.image s c.rows-rows.result c.loop-row.table c.args.slot c.join.result c.loop-row.invariant.fit r _ _ _ (omega arith)
-    (run_true (length s) r (c.args.slot / 2 ^ r) c.if-not-is_within.ensures) c.halves.ensures.left c.halves.ensures.right c.index_of.ensures c.index_of-in-loop-row.ensures
+    (run_true (length s) r (c.args.slot / 2 ^ r) c.if-not-is_within.ensures) c.in-Some.ensures.1 c.in-Some.ensures.2 c.index_of.ensures c.index_of-in-loop-row.ensures
     c.index_of-in-loop-row-2.ensures c.join.ensures (c.loop-row.invariant.stored was)) c.loop-row.invariant.fit.high (omega arith)
