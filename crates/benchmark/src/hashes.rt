@@ -33,10 +33,12 @@ impl Hashes {
 
 // Whether the value over a run is the image of a pair.
 fn is_pair<K: Keeper<Blake2s>>(keeper: &K, run: Run) -> bool {
-    if run.row == 0 || !run.is_within(keeper.count()) {
+    if !run.is_within(keeper.count()) {
         return false;
     }
-    let (left, right) = run.halves();
+    let Some((left, right)) = run.halves() else {
+        return false;
+    };
     matches!(keeper.value(left), Ok(Some(_))) && matches!(keeper.value(right), Ok(Some(_)))
 }
 

@@ -11,14 +11,14 @@ use Rattle.utreexo.specs.Lists.{any}
 use Rattle.utreexo.specs.Values.{Image}
 use Rattle.utreexo.specs.Forest.{Slots, Node, locate}
 use Rattle.utreexo.specs.Blocks.{composed, ascending}
-use Rattle.utreexo.specs.Checks.{Cause, cause, refusal, granted, refused, over, output, most_slots, named, above_another, compose_causes, compose}
+use Rattle.utreexo.specs.Checks.{Cause, cause, refusal, granted, refused, over, output, most_slots, named, above_another, compose_causes, compose, outside}
 use Rattle.utreexo.specs.Collection.{coin_at, no_coin, coins_at, fresh, block_for, write_causes, write}
 use Rattle.refusal.specs.declared.Refusal.{Refusal}
 use Rattle.refusal.specs.Numbers.{number}
 use Rattle.utreexo.specs.Outcomes.{answered}
 use Rattle.laws.proofs.Causes.{refusal_none, refusal_some, free, freed}
 use Rattle.block.specs.Compose.{numbers}
-use Rattle.targets.specs.Targets.{outside, target_causes}
+use Rattle.targets.specs.Targets.{target_causes}
 use Rattle.bridge.specs.Spends.{coin_having, coin_or, lacks}
 
 pub turned : (x : Option Coin) (r : Bool) → is_some x ≡ not r → r ≡ not (is_some x)

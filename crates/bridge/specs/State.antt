@@ -1,10 +1,8 @@
--- What the code's bridge means, and what its calls answer.
-use Rattle.std.specs.Prelude.{◌≡◌, ℕ, [], length, Some, None, Ok, Err, Option, Result}
+-- What the code's bridge means, and what look up answers.
+use Rattle.std.specs.Prelude.{◌≡◌, ℕ, [], length, Some, None, Option, Result}
 use Rattle.refusal.specs.declared.Refusal.{Refusal}
-use Rattle.refusal.specs.Numbers.{number}
 use Rattle.utreexo.specs.declared.types.Slot.{Slot}
 use Rattle.utreexo.specs.Forest.{Slots}
-use Rattle.utreexo.specs.Checks.{Answer, granted, refused}
 use Rattle.utreexo.specs.Bridge.{Bridge as Model, Found, looked_up}
 use Rattle.utreexo.specs.Bytes.{Bytes}
 use Rattle.utreexo.specs.Values.{Image}
@@ -20,11 +18,7 @@ use Rattle.bridge.specs.declared.Bridge.{Bridge}
 abbrev pub bridge_of : {C K : Type 0} {c : CompressionGhosts C} {k : KeeperGhosts K C} → Bridge C K c k → Model
 bridge_of {k} b = record { capacity = k.limit b.keeper; slots = k.slots b.keeper; marks = marks_of b.marks }
 
--- the answer of a call that writes nothing
-abbrev pub outcome : Result (Unit {0}) Refusal → Answer
-outcome (Ok u) = granted []
-outcome (Err e) = refused (number e)
-
+-- the number of a slot, if there is one
 abbrev pub number_in : Option Slot → Option ℕ
 number_in None = None
 number_in (Some w) = Some w.number

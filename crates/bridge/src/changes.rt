@@ -2,7 +2,8 @@
 ghost use Rattle.std.specs.Prelude.{◌≡◌, []};
 ghost use Rattle.utreexo.specs.Checks.{step};
 ghost use Rattle.utreexo.specs.Bridge.{bridge_take, bridge_take_back, bridge_step};
-ghost use Rattle.bridge.specs.State.{bridge_of, outcome};
+ghost use Rattle.utreexo.specs.Outcomes.{answer_of};
+ghost use Rattle.bridge.specs.State.{bridge_of};
 
 use crate::Bridge;
 use crate::judge::judge;
@@ -28,7 +29,7 @@ impl<C: Compression, K: Keeper<C>> Bridge<C, K> {
 
     // Takes a block: all checks come before the first change. The targets' slots are blanked, and each new coin gets a slot.
     pub fn take(&mut self, block: &[u8]) -> Result<(), Refusal>
-        ensures { bridge_step C.Compression.image (bridge_take block.now) (bridge_of self.old) ≡ step (outcome result) (bridge_of self.new) }
+        ensures { bridge_step C.Compression.image (bridge_take block.now) (bridge_of self.old) ≡ step (answer_of result) (bridge_of self.new) }
     {
         let taking = judge::<C, K>(&self.keeper, block)?;
         let mark = Mark::new(self.keeper.count(), taking.blanked.as_slice());
@@ -40,7 +41,7 @@ impl<C: Compression, K: Keeper<C>> Bridge<C, K> {
 
     // Undoes the newest block.
     pub fn take_back(&mut self) -> Result<(), Refusal>
-        ensures { bridge_step C.Compression.image bridge_take_back (bridge_of self.old) ≡ step (outcome result) (bridge_of self.new) }
+        ensures { bridge_step C.Compression.image bridge_take_back (bridge_of self.old) ≡ step (answer_of result) (bridge_of self.new) }
     {
         let Some(mark) = self.marks.pop() else {
             return Err(Refusal::NoMark);

@@ -13,13 +13,13 @@ use Rattle.utreexo.specs.Lists.{any}
 use Rattle.utreexo.specs.Values.{Image}
 use Rattle.utreexo.specs.Claims.{Target, proof_of, needed, fits}
 use Rattle.utreexo.specs.Blocks.{Block, ascending}
-use Rattle.utreexo.specs.Checks.{Cause, cause, refusal, named, targets_of, block_proof, above_another, place_causes, blank_over, proof_causes}
+use Rattle.utreexo.specs.Checks.{Cause, cause, refusal, named, targets_of, block_proof, above_another, place_causes, blank_over, proof_causes, outside}
 use Rattle.utreexo.specs.Outcomes.{Judged}
 use Rattle.block.specs.Compose.{numbers}
 use Rattle.laws.proofs.Logic.{some_inj}
 use Rattle.laws.proofs.Causes.{free, freed, refusal_some, refusal_none, first_cause}
 use Rattle.targets.specs.declared.placed.Targets.{Targets}
-use Rattle.targets.specs.Targets.{placed, outside, target_causes, Are}
+use Rattle.targets.specs.Targets.{placed, target_causes, Are}
 use Rattle.climb.specs.Held.{hashes_in}
 use Rattle.climb.specs.Claimed.{claims}
 use Rattle.proof.specs.Accepts.{judge_causes}

@@ -5,11 +5,10 @@ use Rattle.utreexo.specs.declared.types.Coin.{Coin}
 use Rattle.utreexo.specs.declared.types.Position.{Position}
 use Rattle.utreexo.specs.Lists.{any}
 use Rattle.utreexo.specs.Claims.{Target}
-use Rattle.utreexo.specs.Checks.{named}
+use Rattle.utreexo.specs.Checks.{named, outside}
 use Rattle.block.specs.Compose.{numbers}
 use Rattle.targets.specs.declared.spend.Spend.{Spend}
 use Rattle.targets.specs.Spends.{target_of, targets}
-use Rattle.targets.specs.Targets.{outside}
 
 -- whether a target passes a test
 pub any_targets : (p : Target → Bool) (ss : List Spend) → list_any (λ s. p (target_of s)) ss ≡ any p (targets ss)

@@ -3,11 +3,10 @@ use Rattle.std.proofs.Common.{◌≡◌, ℕ, ◌/◌, ◌^◌, ◌<◌, Bool, t
 use Rattle.std.proofs.lemmas.Bool.{ltb-true, lt-ltb, eqb-true, eq-eqb, and_parts, and_from, or_cases, or_left, or_right, not-true, not_from_true, not_from_false, cases_Bool, both_ways}
 use Rattle.utreexo.specs.Lists.{any}
 use Rattle.utreexo.specs.Claims.{Target, beneath, same_node}
-use Rattle.utreexo.specs.Checks.{above_another}
+use Rattle.utreexo.specs.Checks.{above_another, strictly_above}
 use Rattle.laws.proofs.Order.{Mem}
 use Rattle.laws.proofs.Members.{mem_any, any_none, none_any}
 use Rattle.targets.specs.Valid.{within, later, sorted, valid}
-use Rattle.targets.specs.Targets.{strictly_above}
 
 abbrev pub Later : Target → Target → Type 0
 Later t u = (t.node.row < u.node.row) ⊎ ((t.node.row ≡ u.node.row) × (t.node.place < u.node.place))

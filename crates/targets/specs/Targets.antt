@@ -5,18 +5,10 @@ use Rattle.utreexo.specs.Lists.{any}
 use Rattle.utreexo.specs.Forest.{locate}
 use Rattle.utreexo.specs.Claims.{Target, beneath, same_node}
 use Rattle.utreexo.specs.Blocks.{ascending}
-use Rattle.utreexo.specs.Checks.{Cause, cause, named, above_another}
+use Rattle.utreexo.specs.Checks.{Cause, cause, named, outside, above_another}
 use Rattle.targets.specs.declared.spend.Spend.{Spend}
 use Rattle.targets.specs.declared.placed.Targets.{Targets}
 use Rattle.targets.specs.Spends.{targets}
-
--- p is no position of the forest of n slots
-abbrev pub outside : ℕ → ℕ → Bool
-outside n p = not (is_some (locate n p))
-
--- t is above u
-abbrev pub strictly_above : Target → Target → Bool
-strictly_above t u = beneath u.node t.node && not (same_node u.node t.node)
 
 -- the causes for which positions, named with coins, are refused: too many, not as many as the coins, not ascending, outside the forest, one above another
 abbrev pub target_causes : ℕ → List ℕ → List Coin → List Cause

@@ -1,10 +1,10 @@
 // Where the positions of a block are, and whether one is above another.
 ghost use Rattle.std.specs.Prelude.{◌≡◌, ◌/◌, ◌^◌, ◌≤◌, true, length, MatchOption};
 ghost use Rattle.utreexo.specs.Lists.{any};
-ghost use Rattle.utreexo.specs.Checks.{above_another};
+ghost use Rattle.utreexo.specs.Checks.{above_another, outside, strictly_above};
 ghost use Rattle.block.specs.Compose.{numbers};
 ghost use Rattle.targets.specs.Spends.{target_of, targets};
-ghost use Rattle.targets.specs.Targets.{outside, strictly_above, Located};
+ghost use Rattle.targets.specs.Targets.{Located};
 
 use crate::spend::{Spend, Spends};
 use utreexo::types::{Coin, Position};

@@ -85,14 +85,22 @@ targets_of n b = named n b.targets b.spent
 abbrev pub block_proof : ℕ → Block → Proof
 block_proof n b = proof_of n (targets_of n b) b.hashes
 
+-- p is no position of the forest of n slots
+abbrev pub outside : ℕ → ℕ → Bool
+outside n p = not (is_some (locate n p))
+
+-- t lies above u
+abbrev pub strictly_above : Target → Target → Bool
+strictly_above t u = beneath u.node t.node && not (same_node u.node t.node)
+
 -- some target lies above another
 abbrev pub above_another : List Target → Bool
-above_another ts = any (λ t. any (λ u. beneath u.node t.node && not (same_node u.node t.node)) ts) ts
+above_another ts = any (λ t. any (strictly_above t) ts) ts
 
 -- what the count alone tells of a block's targets and hashes
 abbrev pub place_causes : ℕ → Block → List Cause
 place_causes n b =
-    cause 6 (any (λ p. not (is_some (locate n p))) b.targets)
+    cause 6 (any (outside n) b.targets)
     ∷ cause 7 (above_another (targets_of n b))
     ∷ cause 8 (not (length b.hashes == length (needed n (targets_of n b))))
     ∷ []

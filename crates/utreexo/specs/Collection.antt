@@ -11,7 +11,7 @@ use Rattle.utreexo.specs.Values.{Image, same_value, same_coin, same_input}
 use Rattle.utreexo.specs.Forest.{Slots, Node, at_node, locate, rows, slot_struck, roots_of}
 use Rattle.utreexo.specs.Claims.{Target, Proof, same_node, covered, needed, no_value, claim_at, claimed_input}
 use Rattle.utreexo.specs.Blocks.{Block, composed, entries, ascending}
-use Rattle.utreexo.specs.Checks.{Cause, cause, refusal, Answer, output, most_slots, read_causes, named, targets_of, block_proof, above_another, place_causes, proof_causes}
+use Rattle.utreexo.specs.Checks.{Cause, outside, cause, refusal, Answer, output, most_slots, read_causes, named, targets_of, block_proof, above_another, place_causes, proof_causes}
 use Rattle.utreexo.specs.Wallet.{Held, View, card_of}
 
 -- Live slots ---------------------------------------------------------------------------
@@ -147,7 +147,7 @@ abbrev pub write_causes : Image → Slots → List ℕ → List Coin → List Ca
 write_causes image s ps cs =
     cause 2 (nat_lt 32 (length ps) || nat_lt 32 (length cs))
     ∷ cause 4 (not (ascending ps))
-    ∷ cause 6 (any (λ p. not (is_some (locate (length s) p))) ps)
+    ∷ cause 6 (any (outside (length s)) ps)
     ∷ cause 7 (above_another (named (length s) ps (coins_at image s ps)))
     ∷ cause 11 (nat_lt most_slots (length s + length cs))
     ∷ cause 16 (any (λ p. elim (locate (length s) p) [ None ↦ true | Some e ↦ not (is_some (coin_at image s e)) ]) ps)

@@ -1,5 +1,5 @@
 -- What a call's `Result` says in terms of the definitions.
-use Rattle.std.specs.Prelude.{◌≡◌, ℕ, List, length, Some, None, Ok, Err, Result}
+use Rattle.std.specs.Prelude.{◌≡◌, ℕ, List, [], length, Some, None, Ok, Err, Result}
 use Rattle.refusal.specs.declared.Refusal.{Refusal}
 use Rattle.refusal.specs.Numbers.{number}
 use Rattle.utreexo.specs.Bytes.{Bytes}
@@ -9,6 +9,11 @@ use Rattle.utreexo.specs.Checks.{Cause, refusal, Answer, granted, refused}
 abbrev pub Judged : {A : Type 0} → List Cause → (A → Type 0) → Result A Refusal → Type 0
 Judged causes P (Ok a) = (refusal causes ≡ None) × P a
 Judged causes P (Err e) = refusal causes ≡ Some (number e)
+
+-- the answer of a call without an output
+abbrev pub answer_of : Result (Unit {0}) Refusal → Answer
+answer_of (Ok u) = granted []
+answer_of (Err e) = refused (number e)
 
 -- the answer of a call that writes, with the output after it
 abbrev pub answered : Result ℕ Refusal → Bytes → Answer

@@ -7,7 +7,7 @@ use Rattle.utreexo.specs.Bytes.{Bytes}
 use Rattle.utreexo.specs.Values.{Image}
 use Rattle.utreexo.specs.Blocks.{entries}
 use Rattle.utreexo.specs.Checks.{Cause, cause, refusal, granted, refused, step, when_granted, push}
-use Rattle.utreexo.specs.Outcomes.{Judged}
+use Rattle.utreexo.specs.Outcomes.{answer_of, Judged}
 use Rattle.utreexo.specs.Wallet.{View, Wallet, take_causes, watch_causes, view_after, with_view, with_shelf, held_from, on_shelf, drop_first}
 use Rattle.utreexo.specs.Wallet.{take_block, check_block, watch, let_go, take_back, wallet_step}
 use Rattle.laws.proofs.Logic.{never, some_inj}
@@ -15,7 +15,6 @@ use Rattle.history.specs.Stack.{newest_of, older}
 use Rattle.shelf.specs.declared.state.State.{State}
 use Rattle.shelf.specs.Finding.{has_position}
 use Rattle.shelf.specs.Views.{view_of}
-use Rattle.wallet.specs.State.{answer_of}
 
 -- granted, and refused
 pub granted_step : {S : Type 0} (d : Option ℕ) (new old : S) → d ≡ None → when_granted d new old ≡ step (granted []) new

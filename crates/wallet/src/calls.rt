@@ -1,7 +1,7 @@
 // The calls.
 ghost use Rattle.std.specs.Prelude.{◌≡◌, map, length, slice_get};
 ghost use Rattle.utreexo.specs.Checks.{step};
-ghost use Rattle.utreexo.specs.Outcomes.{answered, Writes};
+ghost use Rattle.utreexo.specs.Outcomes.{answer_of, answered, Writes};
 ghost use Rattle.utreexo.specs.Wallet.{position_of, new_wallet, take_block, check_block, watch as watch_card, let_go as let_go_of, show as show_at, take_back as take_last_back, wallet_step};
 ghost use Rattle.utreexo.specs.Register.{new_register};
 ghost use Rattle.utreexo.specs.Promise.{Faithful};
@@ -9,7 +9,7 @@ ghost use Rattle.place.specs.Nodes.{number_of};
 ghost use Rattle.history.specs.Stack.{stack, newest_of, older};
 ghost use Rattle.shelf.specs.Shown.{card_at};
 ghost use Rattle.promise.specs.Agreement.{Agrees, Keeps};
-ghost use Rattle.wallet.specs.State.{wallet_of, marked, answer_of};
+ghost use Rattle.wallet.specs.State.{wallet_of, marked};
 
 use crate::Wallet;
 use crate::step::{checked, taken};

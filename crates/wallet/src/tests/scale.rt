@@ -231,7 +231,8 @@ fn check_take(
 ) -> Result<[Option<Value>; 32], Fail> {
     let mut out = [0; 31048];
     let len = write_block(slots, added, &mut out)?;
-    let block = Block::read(&out[..len.min(31048)])?;
+    let bytes = &out[..len.min(31048)];
+    let block = Block::read(bytes)?;
     let claims = Claims::of(&block)?;
     let mut marks = [State::empty(); 1];
     let mut wallet = Wallet::<Counted> {
@@ -241,7 +242,7 @@ fn check_take(
         compression: PhantomData,
     };
     let before = wallet.roots()[31];
-    take(&mut wallet, block.bytes())?;
+    take(&mut wallet, bytes)?;
     let roots = *wallet.roots();
     let counts = (before.map(|v| v.w0), roots[31].map(|v| v.w0));
     assert_eq!(rt; counts, (Some(images.0), Some(images.1)));

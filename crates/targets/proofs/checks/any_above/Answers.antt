@@ -3,7 +3,7 @@ use Rattle.std.proofs.lemmas.Iterator.{YieldsList-from_slice}
 use Rattle.std.proofs.lemmas.Iterator.Search.{any_from_yields_List}
 use Rattle.utreexo.specs.Lists.{any}
 use Rattle.targets.specs.Spends.{target_of, targets}
-use Rattle.targets.specs.Targets.{strictly_above}
+use Rattle.utreexo.specs.Checks.{strictly_above}
 use Rattle.targets.proofs.Placing.{any_targets}
 use Rattle.targets.proofs.checks.any_above.Goals as goal
 

@@ -2,7 +2,7 @@ use Rattle.std.proofs.Common.{◌∙◌, rules, tests}
 use Rattle.std.proofs.lemmas.Iterator.{YieldsList-from_slice}
 use Rattle.std.proofs.lemmas.Iterator.Search.{any_from_yields_List}
 use Rattle.targets.specs.Spends.{target_of}
-use Rattle.targets.specs.Targets.{strictly_above}
+use Rattle.utreexo.specs.Checks.{strictly_above}
 use Rattle.targets.proofs.Placing.{any_targets}
 use Rattle.targets.proofs.checks.is_above_any.Goals as goal
 

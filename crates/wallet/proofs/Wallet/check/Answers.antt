@@ -1,6 +1,7 @@
 use Rattle.utreexo.specs.Wallet.{check_block}
 use Rattle.promise.proofs.Agreement.{call_keeps}
-use Rattle.wallet.specs.State.{wallet_of, answer_of}
+use Rattle.utreexo.specs.Outcomes.{answer_of}
+use Rattle.wallet.specs.State.{wallet_of}
 use Rattle.wallet.proofs.Steps.{checked_step}
 use Rattle.wallet.proofs.Wallet.check.Goals as goal
 

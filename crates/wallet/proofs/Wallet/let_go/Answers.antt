@@ -1,7 +1,8 @@
 use Rattle.utreexo.specs.Wallet.{let_go, with_view}
 use Rattle.promise.proofs.Agreement.{call_keeps}
 use Rattle.shelf.specs.Views.{view_of}
-use Rattle.wallet.specs.State.{wallet_of, answer_of}
+use Rattle.utreexo.specs.Outcomes.{answer_of}
+use Rattle.wallet.specs.State.{wallet_of}
 use Rattle.wallet.proofs.Steps.{let_go_step, view_kept}
 use Rattle.wallet.proofs.Wallet.let_go.Goals as goal
 

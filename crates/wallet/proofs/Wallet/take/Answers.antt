@@ -3,7 +3,8 @@ use Rattle.utreexo.specs.Checks.{granted, step}
 use Rattle.utreexo.specs.Wallet.{take_block, with_view, wallet_step}
 use Rattle.promise.proofs.Agreement.{call_keeps}
 use Rattle.shelf.specs.Views.{view_of}
-use Rattle.wallet.specs.State.{wallet_of, answer_of}
+use Rattle.utreexo.specs.Outcomes.{answer_of}
+use Rattle.wallet.specs.State.{wallet_of}
 use Rattle.wallet.proofs.Steps.{taken_step}
 use Rattle.wallet.proofs.Wallet.take.Goals as goal
 
