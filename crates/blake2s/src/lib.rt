@@ -7,7 +7,8 @@ mod tests;
 mod words;
 
 ghost use Rattle.std.specs.Prelude.{◌≡◌, ◌≤◌, [], length, codes};
-ghost use Rattle.std.proofs.Common.{rules};
+ghost use Rattle.std.proofs.Common.{refl};
+ghost use Rattle.std.proofs.lemmas.Bool.{leb-true};
 ghost use Rattle.blake2s.specs.Blake2s.{blake2s, answer};
 ghost use Rattle.blake2s.specs.Examples.{abc_digest, empty_digest};
 
@@ -52,11 +53,11 @@ pub trait Short<const N: usize> {
 }
 
 impl Short<33> for [u8; 33] {
-    ghost few = { Prim.search rules };
+    ghost few = { leb-true 33 128 refl };
 }
 
 impl Short<65> for [u8; 65] {
-    ghost few = { Prim.search rules };
+    ghost few = { leb-true 65 128 refl };
 }
 
 // The digest of a message of N bytes, compiled for that length.
