@@ -133,10 +133,12 @@ new_in (hash b) = []
 new_in (new b) = coin_in b ∷ []
 new_in end = []
 
+-- what these parts give, joined up in their order
 abbrev pub gathered : {A : Type 0} → (Part → List A) → List (Part × ℕ) → List A
 gathered of [] = []
 gathered of (e ∷ es) = of e.0 ++ gathered of es
 
+-- the block that these parts make
 abbrev pub read_as : List (Part × ℕ) → Block
 read_as es = record { targets = gathered target_in es; spent = gathered spent_in es; hashes = gathered hash_in es; coins = gathered new_in es }
 

@@ -11,6 +11,7 @@ module _ (image : Image) (s : Slots) (p : Proof) where
   abbrev pub visit_place : ℕ → ℕ → Verdict → Verdict
   visit_place r o on = compared (position (length s) r o) (own_input image s r o) (claimed_input image (claim_at p r o)) on
 
+  -- these places of row r, one after another
   abbrev pub visit_places : ℕ → List ℕ → Verdict → Verdict
   visit_places r [] on = on
   visit_places r (o ∷ os) on = visit_place r o (visit_places r os on)

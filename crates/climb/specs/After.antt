@@ -10,9 +10,11 @@ use Rattle.climb.specs.declared.item.Item.{Item}
 use Rattle.climb.specs.Rows.{lookup}
 use Rattle.climb.specs.Entries.{entry}
 
+-- the table's rows as lists, from row 0
 abbrev pub row_lists : AfterValues → List (List Item)
 row_lists t = map (λ r. r.items) t.rows
 
+-- what is left by an item that there may be
 abbrev pub left_at : Option Item → Option (Option Value)
 left_at None = None
 left_at (Some x) = Some x.left

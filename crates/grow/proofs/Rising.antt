@@ -5,7 +5,7 @@ use Rattle.std.proofs.lemmas.Bool.{cases_eq, eq-eqb, ne_eqb, eqb-true, and_parts
 use Rattle.utreexo.specs.declared.types.Value.{Value}
 use Rattle.utreexo.specs.Forest.{bit, tree_place}
 use Rattle.utreexo.specs.Wallet.{Held, topped, tree_joined}
-use Rattle.shelf.specs.Held.{stands, astray}
+use Rattle.shelf.specs.Held.{in_its_tree, astray}
 use Rattle.shelf.proofs.Struck.{close_up}
 use Rattle.grow.proofs.Places.{half, next_run, same_above}
 
@@ -13,14 +13,14 @@ use Rattle.grow.proofs.Places.{half, next_run, same_above}
 -- these that is being joined.
 abbrev pub Rising : ℕ → ℕ → Held → Type 0
 Rising n k h =
-    ((k ≤ h.row + length h.path) × (stands n h ≡ true))
+    ((k ≤ h.row + length h.path) × (in_its_tree n h ≡ true))
     ⊎ ((h.row + length h.path ≡ k) × (h.place / 2 ^ length h.path ≡ n / 2 ^ k))
 
 pub rising_none : (n : ℕ) (hs : List Held) → astray n hs ≡ false → AllByRecursion (Rising n 0) hs
 rising_none n [] e = tt
-rising_none n (h ∷ hs) e = go (stands n h) refl e (rising_none n hs)
+rising_none n (h ∷ hs) e = go (in_its_tree n h) refl e (rising_none n hs)
   where
-    go : (b : Bool) → stands n h ≡ b → (not b || astray n hs) ≡ false → (astray n hs ≡ false → AllByRecursion (Rising n 0) hs)
+    go : (b : Bool) → in_its_tree n h ≡ b → (not b || astray n hs) ≡ false → (astray n hs ≡ false → AllByRecursion (Rising n 0) hs)
         → AllByRecursion (Rising n 0) (h ∷ hs)
     go true q e rest = (inl (omega arith, q), rest e)
     go false q e rest = cc
@@ -72,7 +72,7 @@ rising_more n k l c [] odd r = tt
 rising_more n k l c (h ∷ hs) odd r = (rising_one n k l c h odd r.0, rising_more n k l c hs odd r.1)
 
 -- the run is the tree of the count with one more
-risen : (n k : ℕ) (h : Held) → (n / 2 ^ k + 1) * 2 ^ k ≡ n + 1 → n / 2 ^ k % 2 ≡ 0 → Rising n k h → stands (n + 1) h ≡ true
+risen : (n k : ℕ) (h : Held) → (n / 2 ^ k + 1) * 2 ^ k ≡ n + 1 → n / 2 ^ k % 2 ≡ 0 → Rising n k h → in_its_tree (n + 1) h ≡ true
 risen n k h ones even (inl (l, s)) =
     let j = h.row + length h.path in
     let b = and_parts (bit n j) (eqb (h.place / 2 ^ length h.path) (tree_place n j)) s in

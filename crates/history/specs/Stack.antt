@@ -22,6 +22,6 @@ abbrev pub older : {M : Type 0} → List M → List M
 older [] = []
 older (m ∷ ms) = ms
 
--- of c places in a circle, q comes after p; what is past the last is taken for the last
+-- In a circle of c places, q comes after p: the next number, and after the last place the first.
 abbrev pub Next : ℕ → ℕ → ℕ → Type 0
 Next c p q = (p + 1 < c → q ≡ p + 1) × (c ≤ p + 1 → q ≡ 0)

@@ -9,7 +9,7 @@ use Rattle.utreexo.specs.Wallet.{Held}
 use Rattle.laws.proofs.Members.{map_mem, filter_mem, any_none, none_any}
 use Rattle.laws.proofs.Places.{with_bit_half, sib_half, up_lt, up_shr}
 use Rattle.laws.proofs.Strikes.{sibling_sib}
-use Rattle.shelf.specs.Held.{stands, astray}
+use Rattle.shelf.specs.Held.{in_its_tree, astray}
 use Rattle.refresh.specs.Refreshed.{Lookup, renewed_by, refreshed_by}
 
 half : (o n : ℕ) → o / 2 / 2 ^ n ≡ o / 2 ^ suc n
@@ -35,7 +35,7 @@ length_renewed f r o [] = refl
 length_renewed f r o (v ∷ vs) = ap (λ (x : ℕ). suc x) (length_renewed f (r + 1) (o / 2) vs)
 
 -- a coin that stands in a tree does so refreshed
-pub stands_on : (n : ℕ) (f : Lookup) (h : Held) → stands n (refreshed_by f h) ≡ stands n h
+pub stands_on : (n : ℕ) (f : Lookup) (h : Held) → in_its_tree n (refreshed_by f h) ≡ in_its_tree n h
 stands_on n f h =
     let xs = renewed_by f h.row h.place h.path in
     let K = strike xs h.place in
@@ -52,10 +52,10 @@ none_astray n f q hs e =
     none_any _ _ (λ x m.
     let (h, from, is) = map_mem (refreshed_by f) (filter q hs) x m in
     let (held, _) = filter_mem q hs h from in
-    ap (λ y. not (stands n y)) is ∙ ap not (stands_on n f h) ∙ any_none _ hs h e held)
+    ap (λ y. not (in_its_tree n y)) is ∙ ap not (stands_on n f h) ∙ any_none _ hs h e held)
 
 -- the place of the tree's root is one of its row's
-pub below_top : (n : ℕ) (h : Held) → stands n h ≡ true → h.place / 2 ^ length h.path < n / 2 ^ (h.row + length h.path)
+pub below_top : (n : ℕ) (h : Held) → in_its_tree n h ≡ true → h.place / 2 ^ length h.path < n / 2 ^ (h.row + length h.path)
 below_top n h e =
     let k = h.row + length h.path in
     let (odd, top) = and_parts (bit n k) (eqb (h.place / 2 ^ length h.path) (tree_place n k)) e in

@@ -11,7 +11,7 @@ use Rattle.climb.specs.declared.after.AfterValues.{AfterValues}
 use Rattle.climb.specs.After.{look, Tells}
 use Rattle.std.proofs.lemmas.Bool.{not-false}
 use Rattle.laws.proofs.Members.{map_ext, filter_mem, any_none}
-use Rattle.shelf.specs.Held.{stands, astray}
+use Rattle.shelf.specs.Held.{in_its_tree, astray}
 use Rattle.refresh.specs.Refreshed.{settled, renewed_by, refreshed_by}
 use Rattle.refresh.specs.Spent.{stays, shelf_after, Spends}
 use Rattle.refresh.proofs.Standing.{below_top, beside_inside, one_up}
@@ -29,7 +29,7 @@ module _ (image : Image) (p : Proof) (t : AfterValues) (tells : Tells image p t)
       ∙ ap (λ xs. cond (covered p.targets (at_node r (sibling o))) (after image (claim_at p r (sibling o))) (Some v) ∷ xs)
       (renewed_same vs (r + 1) (o / 2) (one_up p.count r o (length vs) way))
 
-  refreshed_same : (h : Held) → stands p.count h ≡ true → refreshed_by (look t) h ≡ refreshed image p h
+  refreshed_same : (h : Held) → in_its_tree p.count h ≡ true → refreshed_by (look t) h ≡ refreshed image p h
   refreshed_same h e = ap (λ xs. moved h (strike xs h.place)) (renewed_same h.path h.row h.place (below_top p.count h e))
 
   shelf_same : (hs : List Held) → astray p.count hs ≡ false → shelf_after (look t) p.targets hs ≡ map (refreshed image p) (filter (stays p.targets) hs)

@@ -1,7 +1,7 @@
 // Worked cases under Tally: four slots hold the coins 1 to 4, whose leaf images are 2 to 5, so the values above them are 21, 37 and 248. The
 // coins 1, 3 and 4 are on the shelf.
 ghost use Rattle.std.specs.Prelude.{◌≡◌, ◌<◌, true};
-ghost use Rattle.shelf.specs.Held.{held_of, stands};
+ghost use Rattle.shelf.specs.Held.{held_of, in_its_tree};
 
 use crate::spend;
 use climb::after::AfterValues;
@@ -28,7 +28,7 @@ fn coin(byte: u8) -> Coin {
 // The coin of a slot with its path.
 fn held(byte: u8, slot: u32, low: u8, high: u8) -> Held
     requires { slot < 4 }
-    ensures { stands 4 (held_of result) ≡ true }
+    ensures { in_its_tree 4 (held_of result) ≡ true }
 {
     let mut path = [Value::default(); 31];
     path[0] = value(low);

@@ -16,7 +16,7 @@ use Rattle.laws.proofs.Positions.{over_tree}
 use Rattle.place.specs.Nodes.{position_at}
 use Rattle.shelf.specs.declared.held.Held.{Held as HeldCode}
 use Rattle.shelf.specs.declared.table.Shelf.{Shelf}
-use Rattle.shelf.specs.Held.{held_of, shelf_of, stands, astray}
+use Rattle.shelf.specs.Held.{held_of, shelf_of, in_its_tree, astray}
 use Rattle.shelf.specs.Finding.{index_of, has_position}
 use Rattle.shelf.specs.Shown.{card_at}
 use Rattle.shelf.proofs.Finding.{with, without}
@@ -75,7 +75,7 @@ gone q hs i e = ap (λ b. refusal (cause 15 (not b) ∷ [])) (with q hs i e).som
 -- the others stay in their trees
 pub astray_remove : (n : ℕ) (hs : List Held) (i : ℕ) → astray n hs ≡ false → astray n (remove hs i) ≡ false
 astray_remove n hs i e =
-    none_any (λ h. not (stands n h)) (remove hs i) (λ h m. any_none (λ h. not (stands n h)) hs h e (elim (mem_append (take i hs) (drop (suc i) hs) h m) [
+    none_any (λ h. not (in_its_tree n h)) (remove hs i) (λ h m. any_none (λ h. not (in_its_tree n h)) hs h e (elim (mem_append (take i hs) (drop (suc i) hs) h m) [
       | inl x ↦ take_mem i hs h x
       | inr x ↦ drop_mem (suc i) hs h x
     ]))
@@ -91,7 +91,7 @@ element [] i d l = absurd (omega arith)
 element (x ∷ xs) zero d l = inl refl
 element (x ∷ xs) (suc i) d l = inr (element xs i d (omega arith))
 
-pub position_here : (n : ℕ) → n < 2 ^ 32 → (h : Held) → stands n h ≡ true → position_at n (at_node h.row h.place) ≡ Some (position_of n h)
+pub position_here : (n : ℕ) → n < 2 ^ 32 → (h : Held) → in_its_tree n h ≡ true → position_at n (at_node h.row h.place) ≡ Some (position_of n h)
 position_here n small h s =
     ap (λ z. cond (is_some z) (Some (position_of n h)) None) (over_tree n h.row h.place (h.row + length h.path) small (standing_over n h s))
 
@@ -101,8 +101,8 @@ position_in n small rs i r e l is =
     let hs = map held_of rs in
     let long : length hs ≡ length rs = length-map rs held_of in
     let here : get_or hs i (held_of r) ≡ held_of r = get_or-map held_of rs i r (held_of r) l ∙ ap held_of (sym is) in
-    let s : stands n (held_of r) ≡ true
-    = not-false (stands n (held_of r)) (any_none (λ h. not (stands n h)) hs (held_of r) e (subst (λ h. Mem h hs) here (element hs i (held_of r) (omega arith)))) in
+    let s : in_its_tree n (held_of r) ≡ true
+    = not-false (in_its_tree n (held_of r)) (any_none (λ h. not (in_its_tree n h)) hs (held_of r) e (subst (λ h. Mem h hs) here (element hs i (held_of r) (omega arith)))) in
     position_here n small (held_of r) s
     ∙ sym (slice_get-get_or (map (position_of n) hs) i 0 (let m = length-map hs (position_of n) in omega arith)
     ∙ ap (λ x. Some x) (get_or-map (position_of n) hs i (held_of r) 0 (omega arith) ∙ ap (position_of n) here))

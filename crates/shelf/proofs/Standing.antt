@@ -9,11 +9,11 @@ use Rattle.laws.proofs.Places.{up_shr}
 use Rattle.laws.proofs.Tops.{Over}
 use Rattle.laws.proofs.Forest.{Top}
 use Rattle.laws.proofs.Positions.{bit_top, locate_at, locate_is, same_position}
-use Rattle.shelf.specs.Held.{stands, astray}
+use Rattle.shelf.specs.Held.{in_its_tree, astray}
 use Rattle.shelf.specs.Finding.{index_of, next_index, is_at, has_position}
 
 -- the tree that it is in
-pub standing_over : (n : ℕ) (h : Held) → stands n h ≡ true → Over n h.row h.place (h.row + length h.path)
+pub standing_over : (n : ℕ) (h : Held) → in_its_tree n h ≡ true → Over n h.row h.place (h.row + length h.path)
 standing_over n h e =
     let k = h.row + length h.path in
     let (b, p) = and_parts (bit n k) (eqb (h.place / 2 ^ length h.path) (tree_place n k)) e in
@@ -22,7 +22,7 @@ standing_over n h e =
 
 module _ (n : ℕ) (small : n < 2 ^ 32) (p : ℕ) where
   -- it has the position if it is at the node that is located there
-  pub position_at_node : (d : Node) → locate n p ≡ Some d → (h : Held) → stands n h ≡ true → is_at d h ≡ has_position n p h
+  pub position_at_node : (d : Node) → locate n p ≡ Some d → (h : Held) → in_its_tree n h ≡ true → is_at d h ≡ has_position n p h
   position_at_node d e h s = iff_bool (is_at d h) (has_position n p h) to from
     where
       to : is_at d h ≡ true → has_position n p h ≡ true
@@ -38,7 +38,7 @@ module _ (n : ℕ) (small : n < 2 ^ 32) (p : ℕ) where
           and_from (eqb h.row d.row) (eqb h.place d.place) (eq-eqb h.row d.row a) (eq-eqb h.place d.place b)
 
   -- and not if none is
-  pub position_of_none : locate n p ≡ None → (h : Held) → stands n h ≡ true → has_position n p h ≡ false
+  pub position_of_none : locate n p ≡ None → (h : Held) → in_its_tree n h ≡ true → has_position n p h ≡ false
   position_of_none e h s = go (has_position n p h) refl
     where
       go : (b : Bool) → has_position n p h ≡ b → b ≡ false
@@ -48,16 +48,16 @@ module _ (n : ℕ) (small : n < 2 ^ 32) (p : ℕ) where
       go false t = refl
 
 -- tests that agree on coins that stand find the same
-pub index_same : (n : ℕ) (p q : Held → Bool) → ((h : Held) → stands n h ≡ true → p h ≡ q h) → (hs : List Held) → astray n hs ≡ false
+pub index_same : (n : ℕ) (p q : Held → Bool) → ((h : Held) → in_its_tree n h ≡ true → p h ≡ q h) → (hs : List Held) → astray n hs ≡ false
     → index_of p hs ≡ index_of q hs
 index_same n p q f [] e = refl
 index_same n p q f (h ∷ hs) e =
-    let (a, b) = or_parts (not (stands n h)) (any (λ h. not (stands n h)) hs) e in
-    ap₂ (λ b z. cond b (Some 0) (next_index z)) (f h (not-false (stands n h) a)) (index_same n p q f hs b)
+    let (a, b) = or_parts (not (in_its_tree n h)) (any (λ h. not (in_its_tree n h)) hs) e in
+    ap₂ (λ b z. cond b (Some 0) (next_index z)) (f h (not-false (in_its_tree n h) a)) (index_same n p q f hs b)
 
-pub index_nowhere : (n : ℕ) (p : Held → Bool) → ((h : Held) → stands n h ≡ true → p h ≡ false) → (hs : List Held) → astray n hs ≡ false
+pub index_nowhere : (n : ℕ) (p : Held → Bool) → ((h : Held) → in_its_tree n h ≡ true → p h ≡ false) → (hs : List Held) → astray n hs ≡ false
     → index_of p hs ≡ None
 index_nowhere n p f [] e = refl
 index_nowhere n p f (h ∷ hs) e =
-    let (a, b) = or_parts (not (stands n h)) (any (λ h. not (stands n h)) hs) e in
-    ap₂ (λ b z. cond b (Some 0) (next_index z)) (f h (not-false (stands n h) a)) (index_nowhere n p f hs b)
+    let (a, b) = or_parts (not (in_its_tree n h)) (any (λ h. not (in_its_tree n h)) hs) e in
+    ap₂ (λ b z. cond b (Some 0) (next_index z)) (f h (not-false (in_its_tree n h) a)) (index_nowhere n p f hs b)

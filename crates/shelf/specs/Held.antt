@@ -18,9 +18,9 @@ abbrev pub shelf_of : Shelf → List Held
 shelf_of s = map held_of (take s.len s.coins)
 
 -- the coin is in a tree of the forest of n slots, and its path goes up to the root
-abbrev pub stands : ℕ → Held → Bool
-stands n h = let k = h.row + length h.path in bit n k && h.place / 2 ^ length h.path == tree_place n k
+abbrev pub in_its_tree : ℕ → Held → Bool
+in_its_tree n h = let k = h.row + length h.path in bit n k && h.place / 2 ^ length h.path == tree_place n k
 
 -- some coin of the shelf is not so
 abbrev pub astray : ℕ → List Held → Bool
-astray n hs = any (λ h. not (stands n h)) hs
+astray n hs = any (λ h. not (in_its_tree n h)) hs

@@ -16,5 +16,6 @@ abbrev pub sorted : List Target → Bool
 sorted [] = true
 sorted (t ∷ ts) = not (any (λ u. not (later t u)) ts) && sorted ts
 
+-- all in the forest of n slots, ascending, and none above another
 abbrev pub valid : ℕ → List Target → Bool
 valid n ts = not (any (λ t. not (within n t)) ts) && (sorted ts && not (above_another ts))

@@ -37,6 +37,7 @@ undo_of r =
     let ws = filter (names bs) (below r.count) in
     record { count = r.count; spent = ws; coins = map (coin_there bs) ws }
 
+-- the same of a mark that there may be
 abbrev pub undo_in : Option Mark → Option Undo
 undo_in None = None
 undo_in (Some r) = Some (undo_of r)

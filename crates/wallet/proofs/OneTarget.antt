@@ -22,7 +22,7 @@ use Rattle.block.specs.declared.entry.Counts.{Counts}
 use Rattle.block.specs.Reader.{counts_in}
 use Rattle.targets.specs.declared.spend.Spend.{Spend}
 use Rattle.targets.specs.Spends.{target_of, targets}
-use Rattle.shelf.specs.Held.{stands}
+use Rattle.shelf.specs.Held.{in_its_tree}
 use Rattle.proof.specs.Accepts.{judge_causes}
 use Rattle.wallet.specs.Cards.{card_causes, held_with, IsOf}
 
@@ -52,7 +52,7 @@ needed_rows image n small t k o =
 
 -- with that many its coin is in a tree
 with_hashes : (image : Image) (n : ℕ) → n < 2 ^ 32 → (t : Target) (k : ℕ) (o : Over n t.node.row t.node.place k) (hashes : List Value)
-    → length hashes ≡ length (needed n (t ∷ [])) → stands n (held_with t hashes) ≡ true
+    → length hashes ≡ length (needed n (t ∷ [])) → in_its_tree n (held_with t hashes) ≡ true
 with_hashes image n small t k o hashes e =
     let long : length hashes ≡ o.rows = e ∙ needed_rows image n small t k o in
     let sum : t.node.row + length hashes ≡ k = omega (arith, o.sum) in
@@ -128,5 +128,5 @@ module _ (image : Image) (n : ℕ) (small : n < 2 ^ 32) (roots : List (Option Va
         located = found.located ∙ ap (λ (t : Target). Some t.node) (sym same);
         one = found.one ∙ ap (λ t. t ∷ []) (sym same);
         no_coin = ap (λ a. map (λ i. coin_in (part (6 + 40 * spent_count bs + 32 * hash_count bs + 32 * i) 32 bs)) (below a)) counts.1;
-        in_tree = ap (λ t. stands n (held_with t (entries bs).hashes)) same ∙ with_hashes image n small t place.top place.over (entries bs).hashes few;
+        in_tree = ap (λ t. in_its_tree n (held_with t (entries bs).hashes)) same ∙ with_hashes image n small t place.top place.over (entries bs).hashes few;
       }

@@ -16,15 +16,15 @@ use Rattle.place.specs.Nodes.{node_of}
 use Rattle.targets.specs.declared.spend.Spend.{Spend}
 use Rattle.targets.specs.Spends.{target_of}
 use Rattle.climb.specs.Held.{hashes_in}
-use Rattle.shelf.specs.Held.{stands, astray}
+use Rattle.shelf.specs.Held.{in_its_tree, astray}
 use Rattle.shelf.specs.Finding.{index_of, is_at, has_position}
 use Rattle.shelf.proofs.Finding.{with, without}
 use Rattle.shelf.proofs.Standing.{standing_over, position_at_node, index_same}
 use Rattle.wallet.specs.Cards.{card_causes, held_with, IsOf}
 
 -- one coin more stands in its tree
-pub standing_pushed : (n : ℕ) (hs : List Held) (h : Held) → astray n hs ≡ false → stands n h ≡ true → astray n (hs ++ (h ∷ [])) ≡ false
-standing_pushed n hs h e s = any_append (λ h. not (stands n h)) hs (h ∷ []) ∙ ap₂ (λ a b. a || (not b || false)) e s
+pub standing_pushed : (n : ℕ) (hs : List Held) (h : Held) → astray n hs ≡ false → in_its_tree n h ≡ true → astray n (hs ++ (h ∷ [])) ≡ false
+standing_pushed n hs h e s = any_append (λ h. not (in_its_tree n h)) hs (h ∷ []) ∙ ap₂ (λ a b. a || (not b || false)) e s
 
 module _ (image : Image) (v : View) (bs : Bytes) where
   abbrev causes : List Cause
@@ -88,8 +88,8 @@ module _ (image : Image) (v : View) (bs : Bytes) where
         abbrev coin : Held
         coin = held_with (target_of s) (hashes_in bytes)
 
-        pub coin_stands : stands v.count coin ≡ true
-        coin_stands = ap (λ hs. stands v.count (held_with (target_of s) hs)) hashes ∙ is.in_tree
+        pub coin_stands : in_its_tree v.count coin ≡ true
+        coin_stands = ap (λ hs. in_its_tree v.count (held_with (target_of s) hs)) hashes ∙ is.in_tree
 
         pub path_short : s.node.row + length bytes / 32 ≤ 31
         path_short =

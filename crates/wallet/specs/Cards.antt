@@ -8,7 +8,7 @@ use Rattle.utreexo.specs.Blocks.{entries, spent_count, coin_count, ascending}
 use Rattle.utreexo.specs.Claims.{Target}
 use Rattle.utreexo.specs.Checks.{Cause, cause, targets_of, place_causes, proof_causes}
 use Rattle.utreexo.specs.Wallet.{Held}
-use Rattle.shelf.specs.Held.{stands}
+use Rattle.shelf.specs.Held.{in_its_tree}
 use Rattle.place.specs.Nodes.{node_of}
 use Rattle.targets.specs.declared.spend.Spend.{Spend}
 use Rattle.targets.specs.Spends.{target_of}
@@ -32,4 +32,4 @@ pub record IsOf (n : ℕ) (bs : Bytes) (s : Spend) : Type 0 where
   pub located : locate n number ≡ Some (node_of s.node)
   pub one : targets_of n (entries bs) ≡ target_of s ∷ []
   pub no_coin : (entries bs).coins ≡ []
-  pub in_tree : stands n (held_with (target_of s) (entries bs).hashes) ≡ true
+  pub in_tree : in_its_tree n (held_with (target_of s) (entries bs).hashes) ≡ true

@@ -3,7 +3,7 @@
 ghost use Rattle.std.specs.Prelude.{◌≡◌, ◌+◌, ◌*◌, ◌%◌, ◌^◌, true};
 ghost use Rattle.std.proofs.Common.{arith};
 ghost use Rattle.utreexo.specs.declared.types.Input.TheVariants.{Leaf, Pair};
-ghost use Rattle.shelf.specs.Held.{held_of, stands};
+ghost use Rattle.shelf.specs.Held.{held_of, in_its_tree};
 
 use crate::Wallet;
 use block::compose::compose;
@@ -135,7 +135,7 @@ impl Claims {
 
     // A coin in a slot, with the path that is claimed.
     fn held(&self, slot: u32) -> Held
-        ensures { stands 2147483648 (held_of result) ≡ true }
+        ensures { in_its_tree 2147483648 (held_of result) ≡ true }
     {
         let place = slot % SLOTS;
         Held {
