@@ -2,9 +2,11 @@
 #![tactic(auto)]
 
 mod arguments;
+mod beside;
 mod blocks;
 mod bridges;
 mod choice;
+mod demonstration;
 mod fault;
 mod hashing;
 mod hex;

@@ -1,11 +1,7 @@
 // One task from beginning to end: a wallet follows a bridge and proves a coin of its own; then a forged block, and the evidence.
-#![tactic(auto)]
-
-mod beside;
-
+use crate::beside::{print_card, print_state, take, take_back, write_block, write_card};
 use answer::hex::Hex;
 use anyhow::Error;
-use beside::{print_card, print_state, take, take_back, write_block, write_card};
 use block::compose::compose;
 use bridge::Bridge;
 use challenge::verdict::Verdict;
@@ -202,7 +198,7 @@ fn demonstrate_forgery(rt: &HostRuntime, marks: &mut [State]) -> anyhow::Result<
 }
 
 // The demonstration, printed as it goes.
-pub fn demonstrate(rt: &HostRuntime) -> anyhow::Result<()> {
+pub(crate) fn demonstrate(rt: &HostRuntime) -> anyhow::Result<()> {
     let mut marks = vec![in rt.alloc(); State::empty(); 4]?;
     println!(rt; "Let coin k be 32 bytes of the number k.")?;
     println!(rt)?;
