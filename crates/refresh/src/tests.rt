@@ -61,7 +61,8 @@ fn spent(targets: &Targets, hashes: &[u8]) -> State {
     let mut state = four_slots();
     let mut after = AfterValues::empty();
     let left = climb::<Tally>(targets, &state.roots, hashes, &mut after);
-    spend(&mut state, targets, &after, &left.unwrap_or(state.roots));
+    let left = left.unwrap_or(state.roots);
+    spend(&mut state, targets, &after, &left);
     state
 }
 
