@@ -1,14 +1,14 @@
 -- The item at a place of a row. Assumes nothing.
-use Rattle.std.proofs.Common.{◌≡◌, ℕ, ◌<◌, cond, eqb, ◌⊎◌, List, [], ◌∷◌, map, length, get_or, Some, None, sym, refl, ap, ◌∙◌, inl, inr, arith}
-use Rattle.std.proofs.lemmas.List.{get_or-map, get_or_past, length-map}
-use Rattle.std.proofs.lemmas.Bool.{eq-eqb, ne_eqb, cases_eq, cases_lt}
+use Rattle.std.proofs.Common.{◌≡◌, ℕ, zero, suc, cond, eqb, ◌⊎◌, List, [], ◌∷◌, map, replicate, get_or, Some, None, sym, refl, ap, inl, inr}
+use Rattle.inline_list.specs.InlineList.{listed}
+use Rattle.std.proofs.lemmas.Bool.{eq-eqb, ne_eqb, cases_eq}
 use Rattle.climb.specs.declared.item.Item.{Item}
 use Rattle.laws.proofs.Order.{Mem}
 use Rattle.utreexo.specs.Values.{Image}
 use Rattle.utreexo.specs.Claims.{Proof}
 use Rattle.climb.specs.Rows.{lookup}
 use Rattle.climb.specs.After.{left_at}
-use Rattle.arrayvec.specs.ArrayVec.{ArrayVec}
+use Rattle.inline_list.specs.declared.InlineList.{InlineList}
 use Rattle.std.specs.List.{find}
 use Rattle.climb.specs.Entries.{entry}
 
@@ -32,11 +32,7 @@ lookup_find [] o = refl
 lookup_find (x ∷ xs) o = ap (cond (eqb x.place o) (Some x)) (lookup_find xs o)
 
 -- a table of empty rows
-abbrev pub items_of : ArrayVec Item → List Item
-items_of r = r.items
-
-pub empty_look : (rows : List (ArrayVec Item)) → ((k : ℕ) (d : ArrayVec Item) → k < length rows → (get_or rows k d).items ≡ []) → (row place : ℕ) → left_at (lookup (get_or (map items_of rows) row []) place) ≡ None
-empty_look rows h row place = ap (λ (l : List Item). left_at (lookup l place)) (elim (cases_lt row (length rows)) [
-  | inl l ↦ get_or-map items_of rows row (record { items = [] }) [] l ∙ h row (record { items = [] }) l
-  | inr g ↦ get_or_past (map items_of rows) row [] (let m = length-map rows items_of in omega arith)
-])
+pub empty_look : {N : ℕ} (n : ℕ) (e : InlineList Item N) → listed e ≡ [] → (row place : ℕ) → left_at (lookup (get_or (map listed (replicate n e)) row []) place) ≡ None
+empty_look zero e h row place = refl
+empty_look (suc n) e h zero place = ap (λ (l : List Item). left_at (lookup l place)) h
+empty_look (suc n) e h (suc row) place = empty_look n e h row place

@@ -1,5 +1,6 @@
 -- The table of after-values, and when it is right.
 use Rattle.std.specs.Prelude.{◌≡◌, ℕ, ◌/◌, ◌^◌, ◌<◌, cond, List, [], map, Some, None, Option, slice_index_or}
+use Rattle.inline_list.specs.InlineList.{listed}
 use Rattle.utreexo.specs.declared.types.Value.{Value}
 use Rattle.utreexo.specs.Lists.{below, filter}
 use Rattle.utreexo.specs.Values.{Image}
@@ -12,7 +13,7 @@ use Rattle.climb.specs.Entries.{entry}
 
 -- the table's rows as lists, from row 0
 abbrev pub row_lists : AfterValues → List (List Item)
-row_lists t = map (λ r. r.items) t.rows
+row_lists t = map listed t.rows
 
 -- what is left by an item that there may be
 abbrev pub left_at : Option Item → Option (Option Value)

@@ -1,12 +1,13 @@
 -- The needed positions that the code finds.
 use Rattle.std.specs.Prelude.{ℕ, List, map}
+use Rattle.inline_list.specs.InlineList.{listed}
 use Rattle.utreexo.specs.Forest.{Node, position}
 use Rattle.place.specs.Nodes.{node_of}
 use Rattle.climb.specs.declared.item.Item.{Item}
 use Rattle.climb.specs.declared.needed.Needed.{Needed}
 
 abbrev pub nodes_of : Needed → List Node
-nodes_of t = map node_of t.nodes.items
+nodes_of t = map node_of (listed t.nodes)
 
 -- their numbers in a forest of n slots
 abbrev pub numbered : ℕ → List Node → List ℕ

@@ -4,7 +4,7 @@ ghost use Rattle.std.specs.Prelude.{◌≡◌, length};
 use crate::item::Row;
 
 // The covered places, row by row.
-#[derive(Drop)]
+#[derive(Copy)]
 pub struct AfterValues {
     pub(crate) rows: [Row; 32],
     ghost whole: { length rows ≡ 32 },

@@ -30,9 +30,11 @@ pub fn climb<C: Compression>(
     let mut rise = Rise::new(targets, hashes);
     let mut fitting = true;
     let mut roots_after = *roots;
+    // The check follows a row that is lent out of a slice, and not one out of the table itself.
+    let rows = &mut after.rows[..];
     // A row is a number here: it shifts the count and tells the targets of the row, so an iterator over the roots is no plainer.
     for row in 0..32u8 {
-        let aside = rise.work::<C>(row, &mut after.rows[row as usize]);
+        let aside = rise.work::<C>(row, &mut rows[row as usize]);
         let root = roots[row as usize];
         fitting &= meets_root(aside, root);
         roots_after[row as usize] = root_after(aside, root);

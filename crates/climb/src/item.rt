@@ -1,5 +1,5 @@
 // What a proof claims of one place.
-use arrayvec::ArrayVec;
+use inline_list::InlineList;
 use utreexo::types::Value;
 
 // A covered place of a row: the value that is claimed there, and the after-value, which is left once the targets are spent.
@@ -11,4 +11,4 @@ pub struct Item {
 }
 
 // The covered places of one row: at most 32, since each has a target at it or beneath it.
-pub(crate) type Row = ArrayVec<Item, 32>;
+pub(crate) type Row = InlineList<Item, 32>;

@@ -1,5 +1,6 @@
 // The rows of a block's targets, from the slots up.
 ghost use Rattle.std.specs.Prelude.{◌≡◌, ◌+◌, ◌/◌, ◌^◌, ◌<◌, ◌≤◌, [], map, length, None};
+ghost use Rattle.inline_list.specs.InlineList.{listed};
 ghost use Rattle.targets.specs.Spends.{target_of, targets};
 ghost use Rattle.targets.specs.Targets.{placed};
 ghost use Rattle.climb.specs.Rows.{front, past, spent_item, merge, left_of, stepped, step};
@@ -19,7 +20,7 @@ pub(crate) struct Rise<'a> {
     left: &'a [Spend],
     carried: Row,
     pub(crate) hashes: Hashes<'a>,
-    ghost few: { length carried.items + length left.now ≤ 32 },
+    ghost few: { length (listed carried) + length left.now ≤ 32 },
 }
 
 impl Rise<'_> {
@@ -27,7 +28,7 @@ impl Rise<'_> {
     pub(crate) fn new<'a>(targets: &'a Targets, hashes: &'a [u8]) -> Rise<'a>
         ensures count { result.count ≡ targets.now.count }
         ensures left { map target_of result.left.now ≡ placed targets.now }
-        ensures carried { result.carried.items ≡ [] }
+        ensures carried { listed result.carried ≡ [] }
         ensures hashes { (result.hashes.bytes.now ≡ hashes.now) × (result.hashes.used ≡ 0) }
     {
         Rise {
@@ -45,10 +46,10 @@ impl Rise<'_> {
     pub(crate) fn work<C: Compression>(&mut self, row: u8, items: &mut Row) -> Option<Item>
         requires low { row < 32 }
         requires fits { self.old.hashes.used < 2 ^ 32 }
-        ensures items { items.new.items ≡ merge left_of self.old.carried.items (map (spent_item C.Compression.image) (front row (targets self.old.left.now))) }
-        ensures room { length items.new.items ≤ 32 }
+        ensures items { listed items.new ≡ merge left_of (listed self.old.carried) (map (spent_item C.Compression.image) (front row (targets self.old.left.now))) }
+        ensures room { length (listed items.new) ≤ 32 }
         ensures left { targets self.new.left.now ≡ past row (targets self.old.left.now) }
-        ensures made { stepped self.new.carried.items result self.new.hashes.used ≡ step C.Compression.image (hashes_in self.old.hashes.bytes.now) (self.old.count / 2 ^ row) self.old.hashes.used None items.new.items }
+        ensures made { stepped (listed self.new.carried) result self.new.hashes.used ≡ step C.Compression.image (hashes_in self.old.hashes.bytes.now) (self.old.count / 2 ^ row) self.old.hashes.used None (listed items.new) }
         ensures used { self.new.hashes.used ≤ self.old.hashes.used + 32 }
         ensures same { (self.new.count ≡ self.old.count) × (self.new.hashes.bytes ≡ self.old.hashes.bytes) }
     {

@@ -1,5 +1,6 @@
 // One row's step up.
 ghost use Rattle.std.specs.Prelude.{◌≡◌, ◌+◌, ◌^◌, ◌<◌, ◌≤◌, true, ◌∷◌, map, length, None, MatchOption};
+ghost use Rattle.inline_list.specs.InlineList.{listed};
 ghost use Rattle.targets.specs.Spends.{targets};
 ghost use Rattle.climb.specs.Rows.{beside, stepped, step, merge, left_of, spent_item};
 ghost use Rattle.climb.specs.Held.{hashes_in, Counted, alone_item};
@@ -31,10 +32,10 @@ pub(crate) fn step_row<C: Compression>(
     parents: &mut Row,
 ) -> Option<Item>
     requires { (length items.now ≤ 32) × (hashes.old.used < 2 ^ 32) }
-    ensures made { stepped parents.new.items result hashes.new.used ≡ step C.Compression.image (hashes_in hashes.old.bytes.now) width hashes.old.used None items.now }
+    ensures made { stepped (listed parents.new) result hashes.new.used ≡ step C.Compression.image (hashes_in hashes.old.bytes.now) width hashes.old.used None items.now }
     ensures count { hashes.new.used ≤ hashes.old.used + length items.now }
     ensures bytes { hashes.new.bytes ≡ hashes.old.bytes }
-    ensures room { length parents.new.items ≤ length items.now }
+    ensures room { length (listed parents.new) ≤ length items.now }
 {
     parents.clear();
     let mut aside = None;
@@ -44,10 +45,11 @@ pub(crate) fn step_row<C: Compression>(
             aside = Some(*item);
             rest = after;
         } else if let Some((sibling, others)) = split_sibling(*item, after) {
-            parents.push(above_two::<C>(*item, sibling));
+            parents.try_push(above_two::<C>(*item, sibling)).unwrap();
             rest = others;
         } else {
-            parents.push(above_one::<C>(*item, hashes.next()));
+            let lone = above_one::<C>(*item, hashes.next());
+            parents.try_push(lone).unwrap();
             rest = after;
         }
     }
@@ -57,11 +59,11 @@ pub(crate) fn step_row<C: Compression>(
 // The items that come up from the row below, and the targets of this row, from the left. A merge takes two lists, of different lengths.
 pub(crate) fn merge_row<C: Compression>(carried: &[Item], spends: &[Spend], row: &mut Row)
     requires { length carried.now + length spends.now ≤ 32 }
-    ensures { row.new.items ≡ merge left_of carried.now (map (spent_item C.Compression.image) (targets spends.now)) }
+    ensures { listed row.new ≡ merge left_of carried.now (map (spent_item C.Compression.image) (targets spends.now)) }
 {
     row.clear();
     let mut rest = carried;
-    // There is room for all of them, so that neither call can fail.
+    // There is room for all of them, so that no call can fail.
     for spend in spends {
         let left = rest
             .iter()
@@ -69,7 +71,7 @@ pub(crate) fn merge_row<C: Compression>(carried: &[Item], spends: &[Spend], row:
             .count();
         let (before, after) = rest.split_at(left);
         row.try_extend_from_slice(before).unwrap();
-        row.push(spent_item::<C>(*spend));
+        row.try_push(spent_item::<C>(*spend)).unwrap();
         rest = after;
     }
     row.try_extend_from_slice(rest).unwrap();

@@ -1,9 +1,9 @@
 -- The checks on the positions of a block, and what they leave.
-use Rattle.std.specs.Prelude.{◌≡◌, ℕ, Bool, false, not, ◌&&◌, List, [], ◌∷◌, length, is_some, ◌==◌, nat_lt}
+use Rattle.std.specs.Prelude.{◌≡◌, ℕ, false, not, List, [], ◌∷◌, length, ◌==◌, nat_lt}
+use Rattle.inline_list.specs.InlineList.{listed}
 use Rattle.utreexo.specs.declared.types.Coin.{Coin}
 use Rattle.utreexo.specs.Lists.{any}
-use Rattle.utreexo.specs.Forest.{locate}
-use Rattle.utreexo.specs.Claims.{Target, beneath, same_node}
+use Rattle.utreexo.specs.Claims.{Target}
 use Rattle.utreexo.specs.Blocks.{ascending}
 use Rattle.utreexo.specs.Checks.{Cause, cause, named, outside, above_another}
 use Rattle.targets.specs.declared.spend.Spend.{Spend}
@@ -22,7 +22,7 @@ target_causes n ps cs =
 
 -- the targets of the definitions
 abbrev pub placed : Targets → List Target
-placed t = targets t.spends.items
+placed t = targets (listed t.spends)
 
 -- t are the named targets, in a forest of n slots
 pub record Are (n : ℕ) (ps : List ℕ) (cs : List Coin) (t : Targets) : Type 0 where

@@ -1,5 +1,6 @@
 // Where the positions of a block are, and whether one is above another.
 ghost use Rattle.std.specs.Prelude.{◌≡◌, ◌/◌, ◌^◌, ◌≤◌, true, length, MatchOption};
+ghost use Rattle.inline_list.specs.InlineList.{listed};
 ghost use Rattle.utreexo.specs.Lists.{any};
 ghost use Rattle.utreexo.specs.Checks.{above_another, outside, strictly_above};
 ghost use Rattle.block.specs.Compose.{numbers};
@@ -13,12 +14,13 @@ use utreexo::types::{Coin, Position};
 pub(crate) fn place_all(count: u32, positions: &[Position], coins: &[Coin]) -> Option<Spends>
     requires few { length positions.now ≤ 32 }
     requires same { length positions.now ≡ length coins.now }
-    ensures { MatchOption result (any (outside count) (numbers positions.now) ≡ true) (λ spends. Located count (numbers positions.now) coins.now spends.items) }
+    ensures { MatchOption result (any (outside count) (numbers positions.now) ≡ true) (λ spends. Located count (numbers positions.now) coins.now (listed spends)) }
 {
     let mut spends = Spends::new();
     for (position, coin) in positions.iter().zip(coins) {
         let node = place::locate(count, *position)?;
-        spends.push(Spend { node, coin: *coin });
+        // There is room for all, so that the call cannot fail.
+        spends.try_push(Spend { node, coin: *coin }).unwrap();
     }
     Some(spends)
 }
@@ -27,7 +29,7 @@ pub(crate) fn place_all(count: u32, positions: &[Position], coins: &[Coin]) -> O
 fn is_above(upper: Spend, lower: Spend) -> bool
     ensures { result ≡ strictly_above (target_of upper) (target_of lower) }
 {
-    lower.node != upper.node && place::is_beneath(lower.node, upper.node)
+    lower.node.row < upper.node.row && place::is_beneath(lower.node, upper.node)
 }
 
 fn is_above_any(upper: Spend, spends: &[Spend]) -> bool

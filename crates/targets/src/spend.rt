@@ -1,5 +1,5 @@
 // One target of a block.
-use arrayvec::ArrayVec;
+use inline_list::InlineList;
 use place::Node;
 use utreexo::types::Coin;
 
@@ -11,4 +11,4 @@ pub struct Spend {
 }
 
 // The targets of a block: at most 32.
-pub(crate) type Spends = ArrayVec<Spend, 32>;
+pub(crate) type Spends = InlineList<Spend, 32>;

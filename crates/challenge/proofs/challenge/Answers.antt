@@ -36,8 +36,8 @@ invariant_of-claims g c =
     record {
       small = omega (arith, a.forest);
       filled = subst (λ p. Fills g.C.Compression.image p c.judge.new.after) (sym (same_proof t c.count.result bytes c.hashes.result.now a.forest a.spent c.hashes.ensures)) c.in_ok-accepted.ensures.after;
-      positions = ap (numbered t.count) c.as_slice.ensures ∙ c.of-needed.ensures.positions;
-      places = subst (All (λ d. inside t.count d ≡ true)) (sym c.as_slice.ensures) c.of-needed.ensures.places;
+      positions = ap (numbered t.count) c.as_slice.ensures.nodes ∙ c.of-needed.ensures.positions;
+      places = subst (All (λ d. inside t.count d ≡ true)) (sym c.as_slice.ensures.nodes) c.of-needed.ensures.places;
     }
 
 pub returns-clause-verdict : goal.returns-clause-verdict

@@ -1,11 +1,11 @@
 // An empty table of after-values, and looking one up.
-ghost use Rattle.std.specs.Prelude.{◌≡◌, ℕ, [], None, slice_index_or};
+ghost use Rattle.std.specs.Prelude.{◌≡◌, ◌≤◌, ℕ, [], None, length, slice_index_or};
 ghost use Rattle.climb.specs.Rows.{lookup};
 ghost use Rattle.climb.specs.After.{row_lists, look};
 
 use super::AfterValues;
-use crate::item::Item;
-use arrayvec::ArrayVec;
+use crate::item::{Item, Row};
+use inline_list::InlineList;
 use std::alloc::AllocError;
 use utreexo::types::Value;
 
@@ -21,16 +21,18 @@ impl AfterValues {
     pub fn empty() -> AfterValues
         ensures { (row place : ℕ) → look result row place ≡ None }
     {
-        AfterValues {
-            rows: Default::default(),
-        }
+        let row = Row::new();
+        AfterValues { rows: [row; 32] }
     }
 
     // The covered places of a row, from the left, with what is claimed there and what is left; none in a row past the last.
     pub fn row(&self, row: u8) -> &[Item]
-        ensures { result.now ≡ slice_index_or (row_lists self.now) row [] }
+        ensures items { result.now ≡ slice_index_or (row_lists self.now) row [] }
+        ensures few { length result.now ≤ 32 }
     {
-        self.rows.get(row as usize).map_or(&[], ArrayVec::as_slice)
+        self.rows
+            .get(row as usize)
+            .map_or(&[], InlineList::as_slice)
     }
 
     // The after-value of a covered place; None where the place is not covered.
@@ -41,14 +43,13 @@ impl AfterValues {
     }
 }
 
-// By hand: a derive is refused for a type with a ghost field.
+// Written out, so that its promise is read here: a copy is the value itself.
 impl Clone for AfterValues {
-    ghost is_clone = { λ t u. row_lists u ≡ row_lists t };
+    ghost is_clone = { λ t u. u ≡ t };
 
     ghost is_infallible = { λ _. Unit {0} };
 
     fn clone(&self) -> Result<AfterValues, AllocError> {
-        let rows = self.rows.clone()?;
-        Ok(AfterValues { rows })
+        Ok(*self)
     }
 }

@@ -13,7 +13,7 @@ use crate::item::{Item, Row};
 use crate::no_values::NoValues;
 use crate::rise::Rise;
 use crate::step::split_sibling;
-use arrayvec::ArrayVec;
+use inline_list::InlineList;
 use place::{Node, sibling_place};
 use targets::placed::Targets;
 
@@ -31,10 +31,8 @@ impl Needed {
             } else if let Some((_, others)) = split_sibling(*item, after) {
                 rest = others;
             } else {
-                self.nodes.push(Node {
-                    row,
-                    place: sibling_place(item.place),
-                });
+                let place = sibling_place(item.place);
+                self.nodes.try_push(Node { row, place }).unwrap();
                 rest = after;
             }
         }
@@ -47,7 +45,7 @@ impl Needed {
         ensures places { All (λ d. inside targets.now.count d ≡ true) (nodes_of result) }
     {
         let mut needed = Needed {
-            nodes: ArrayVec::new(),
+            nodes: InlineList::new(),
         };
         let mut rise = Rise::new(targets, &[]);
         let mut items = Row::new();
@@ -74,7 +72,8 @@ impl Needed {
 
     // Their places, ascending.
     pub fn as_slice(&self) -> &[Node]
-        ensures { map node_of result.now ≡ nodes_of self.now }
+        ensures nodes { map node_of result.now ≡ nodes_of self.now }
+        ensures few { length result.now ≤ 1024 }
     {
         self.nodes.as_slice()
     }

@@ -57,18 +57,13 @@ impl Targets {
     }
 }
 
-// By hand: a derive is refused for a type with a ghost field.
+// Written out, so that its promise is read here: a copy is the value itself.
 impl Clone for Targets {
-    ghost is_clone = { λ t u. (u.count ≡ t.count) × (placed u ≡ placed t) };
+    ghost is_clone = { λ t u. u ≡ t };
 
     ghost is_infallible = { λ _. Unit {0} };
 
     fn clone(&self) -> Result<Targets, AllocError> {
-        let mut spends = Spends::new();
-        spends.try_extend_from_slice(self.as_slice()).unwrap();
-        Ok(Targets {
-            count: self.count,
-            spends,
-        })
+        Ok(*self)
     }
 }

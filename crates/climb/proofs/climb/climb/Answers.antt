@@ -1,4 +1,5 @@
 use Rattle.std.proofs.Common.{◌/◌, ◌^◌, ◌<◌, ◌&&◌, None, ap, ◌∙◌, ap₂, arith}
+use Rattle.inline_list.specs.InlineList.{listed}
 use Rattle.std.specs.Bool.{then_some}
 use Rattle.std.proofs.lemmas.List.{map-set}
 use Rattle.targets.specs.Targets.{placed}
@@ -15,12 +16,12 @@ loop-row-preserved g c =
     let small : t.count < 2 ^ 32 = omega arith in
     let was = c.loop-row.invariant in
     let work = c.work-aside.ensures in
-    let items = c.work-aside.new.items.items in
+    let items = listed c.work-aside.new.items in
     let row = c.loop-row.row in
     let next = c.loop-row.rise.hashes.used in (
       standing_more (valid_is t.count (placed t) small t.valid) was.0 c.loop-row-test.true c.told-roots work.items
           (work.made ∙ ap (λ n. step image (hashes_in c.loop-row.rise.hashes.bytes.now) (n / 2 ^ row) next None items) was.1 ∙ ap (λ b. step image (hashes_in b) (t.count / 2 ^ row) next None items) was.2)
-          work.left work.used (ap (λ m. c.loop-row.fitting && m) c.meets_root-fitting.ensures) c.root_after.ensures (map-set (λ r. r.items) c.loop-row.after.rows row c.work-aside.new.items),
+          work.left work.used (ap (λ m. c.loop-row.fitting && m) c.meets_root-fitting.ensures) c.root_after.ensures (map-set listed c.loop-row.rows row c.work-aside.new.items),
       work.same.0 ∙ was.1,
       ap (λ b. b.now) work.same.1 ∙ was.2,
     )

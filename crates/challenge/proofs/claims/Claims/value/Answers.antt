@@ -13,7 +13,7 @@ returns-in-Some g c =
     let d = c.args.node in
     let row = c.row-row.result.now in
     let e = find_from_yields_List (λ (i : Item). eqb i.place d.place) _ _ c.find.result c.find.ensures.ran (YieldsList-from_slice row (cc)) (λ x b q k. search (rules, tests)) in
-    claim_looked g.C.Compression.image claims.targets.now claims.hashes.now claims.table.now claims.small claims.filled d c.requires c.row-row.ensures (Some c.in-Some.item.now)
+    claim_looked g.C.Compression.image claims.targets.now claims.hashes.now claims.table.now claims.small claims.filled d c.requires c.row-row.ensures.items (Some c.in-Some.item.now)
     (ap (option_map (λ (b : Bor Item). b.now)) (sym c.in-Some.is) ∙ e)
 
 pub returns-in-None : goal.returns-in-None
@@ -23,5 +23,5 @@ returns-in-None g c =
     let row = c.row-row.result.now in
     let e = find_from_yields_List (λ (i : Item). eqb i.place d.place) _ _ c.find.result c.find.ensures.ran (YieldsList-from_slice row (cc)) (λ x b q k. search (rules, tests)) in
     c.hash.ensures
-    ∙ claim_looked g.C.Compression.image claims.targets.now claims.hashes.now claims.table.now claims.small claims.filled d c.requires c.row-row.ensures None
+    ∙ claim_looked g.C.Compression.image claims.targets.now claims.hashes.now claims.table.now claims.small claims.filled d c.requires c.row-row.ensures.items None
     (ap (option_map (λ (b : Bor Item). b.now)) (sym c.in-None.is) ∙ e)

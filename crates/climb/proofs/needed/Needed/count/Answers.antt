@@ -1,4 +1,5 @@
 use Rattle.std.proofs.Common.{◌≡◌, ◌/◌, ◌^◌, ◌<◌, [], None, ap, ◌∙◌, arith}
+use Rattle.inline_list.specs.InlineList.{listed}
 use Rattle.utreexo.specs.Values.{Image}
 use Rattle.utreexo.specs.Claims.{no_value}
 use Rattle.targets.specs.Targets.{placed}
@@ -17,7 +18,7 @@ loop-row-preserved c =
     let small : t.count < 2 ^ 32 = omega arith in
     let was = c.loop-row.invariant in
     let work = c.work.ensures in
-    let items = c.work.new.items.items in
+    let items = listed c.work.new.items in
     let row = c.loop-row.row in
     let next = c.loop-row.rise.hashes.used in (
       rising_more (valid_is t.count (placed t) small t.valid) was.0 c.loop-row-test.true work.items

@@ -1,4 +1,5 @@
 use Rattle.std.proofs.Common.{◌≡◌, []}
+use Rattle.inline_list.specs.InlineList.{listed}
 use Rattle.utreexo.specs.Claims.{no_value}
 use Rattle.targets.specs.Spends.{targets}
 use Rattle.targets.specs.Targets.{placed}
@@ -7,5 +8,5 @@ use Rattle.climb.proofs.needed.Needed.count.Given as goal
 
 abbrev pub invariant-loop-row : goal.invariant-loop-row
 invariant-loop-row l =
-    Rising (λ x. no_value) l.targets.count (placed l.targets) [] l.row l.rise.carried.items (targets l.rise.left.now) l.rise.hashes.used
+    Rising (λ x. no_value) l.targets.count (placed l.targets) [] l.row (listed l.rise.carried) (targets l.rise.left.now) l.rise.hashes.used
     × (l.rise.count ≡ l.targets.count) × (l.rise.hashes.bytes.now ≡ [])

@@ -1,4 +1,5 @@
 use Rattle.std.proofs.Common.{◌≡◌, ◌/◌, ◌^◌, ◌<◌, true, List, [], ◌++◌, map, None, ap, ◌∙◌, arith}
+use Rattle.inline_list.specs.InlineList.{listed}
 use Rattle.utreexo.specs.Values.{Image}
 use Rattle.utreexo.specs.Claims.{no_value, proof_of}
 use Rattle.utreexo.specs.Forest.{at_node}
@@ -22,7 +23,7 @@ loop-row-preserved c =
     let valid = valid_is t.count (placed t) small t.valid in
     let was = c.loop-row.invariant in
     let work = c.work.ensures in
-    let items = c.work.new.items.items in
+    let items = listed c.work.new.items in
     let row = c.loop-row.row in
     let next = c.loop-row.rise.hashes.used in
     let made_so = work.made ∙ ap (λ n. step image (hashes_in c.loop-row.rise.hashes.bytes.now) (n / 2 ^ row) next None items) was.2 ∙ ap (λ b. step image (hashes_in b) (t.count / 2 ^ row) next None items) was.3 in (
