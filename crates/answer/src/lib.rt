@@ -42,7 +42,8 @@ pub enum Output {
     },
 }
 
-// What is shown of a wallet, a bridge or a keeper after a call. Roots go by row.
+// What is shown of a wallet, a bridge or a keeper after a call. Roots go by row. They lie in a box: most answers have none, and every answer
+// that is made or moved would be as large as they are.
 #[derive(Drop)]
 pub enum Shown {
     // the call is of none of them
@@ -52,11 +53,11 @@ pub enum Shown {
     },
     Bridge {
         count: u32,
-        roots: [Option<Value>; 32],
+        roots: Box<[Option<Value>; 32]>,
     },
     Wallet {
         count: u32,
-        roots: [Option<Value>; 32],
+        roots: Box<[Option<Value>; 32]>,
         shelf: Vec<Position>,
     },
 }

@@ -14,9 +14,9 @@ use full_keeper::Full;
 use keeper::Keeper;
 use keeper::bare::Bare;
 use refusal::Refusal;
-use std::alloc::Global;
+use std::alloc::{AllocError, Global};
 use std::str::FromStr;
-use utreexo::types::{Coin, Position};
+use utreexo::types::{Coin, Position, Value};
 
 // A bridge over a keeper of either kind, under either compression.
 pub(crate) type AnyBridge = Choice<
@@ -169,20 +169,28 @@ fn perform<C: Compression, K: Keeper<C>>(
     }
 }
 
-fn state<C: Compression, K: Keeper<C>>(bridge: &Bridge<C, K>) -> Shown {
-    Shown::Bridge {
-        count: bridge.count(),
-        roots: bridge.roots(),
-    }
+// Room for the roots that are shown. It is made before a call: so no call that has done its work is answered by want of memory.
+pub(crate) fn room(heap: Global) -> Result<Box<[Option<Value>; 32]>, AllocError> {
+    let roots = Box::new(heap, [None; 32])?;
+    Ok(roots)
+}
+
+fn state<C: Compression, K: Keeper<C>>(
+    bridge: &Bridge<C, K>,
+    mut roots: Box<[Option<Value>; 32]>,
+) -> Shown {
+    *roots = bridge.roots();
+    let count = bridge.count();
+    Shown::Bridge { count, roots }
 }
 
 // What is shown of a bridge.
-pub(crate) fn shown(bridge: &AnyBridge) -> Shown {
+pub(crate) fn shown(bridge: &AnyBridge, roots: Box<[Option<Value>; 32]>) -> Shown {
     match bridge {
-        Choice::BareBlake2s(bridge) => state(bridge),
-        Choice::FullBlake2s(bridge) => state(bridge),
-        Choice::BareTally(bridge) => state(bridge),
-        Choice::FullTally(bridge) => state(bridge),
+        Choice::BareBlake2s(bridge) => state(bridge, roots),
+        Choice::FullBlake2s(bridge) => state(bridge, roots),
+        Choice::BareTally(bridge) => state(bridge, roots),
+        Choice::FullTally(bridge) => state(bridge, roots),
     }
 }
 
@@ -194,6 +202,7 @@ pub(crate) fn ask(
     name: Name,
     arguments: &[Argument],
 ) -> Result<Answer, Fault> {
+    let roots = room(heap)?;
     let (refusal, output) = match bridge {
         Choice::BareBlake2s(bridge) => perform(heap, bridge, name, arguments)?,
         Choice::FullBlake2s(bridge) => perform(heap, bridge, name, arguments)?,
@@ -202,7 +211,7 @@ pub(crate) fn ask(
     };
     Ok(Answer {
         refusal,
-        shown: shown(bridge),
+        shown: shown(bridge, roots),
         output,
     })
 }

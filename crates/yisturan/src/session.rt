@@ -12,11 +12,11 @@ use std::alloc::Global;
 use wallet::Wallet;
 
 // What calls of one line leave for those of the next: the keeper, the bridge, and whether a line has made a wallet. The wallet itself has
-// its marks lent, so it stands beside them.
+// its marks lent, so it stands beside them. The bridge, with its table of marks, lies in a box: a script that has none pays no stack for it.
 #[derive(Drop)]
 pub(crate) struct Session {
     keeper: Option<AnyKeeper>,
-    bridge: Option<AnyBridge>,
+    bridge: Option<Box<AnyBridge>>,
     has_wallet: bool,
 }
 
@@ -75,8 +75,8 @@ impl Session {
         arguments: &[Argument],
     ) -> Result<Answer, Fault> {
         let bridge = bridges::new(heap, hashing, arguments)?;
-        let shown = bridges::shown(&bridge);
-        self.bridge = Some(bridge);
+        let shown = bridges::shown(&bridge, bridges::room(heap)?);
+        self.bridge = Some(Box::new(heap, bridge)?);
         Ok(Answer::new(shown, Ok(Output::Nothing)))
     }
 

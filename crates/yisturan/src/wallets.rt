@@ -79,12 +79,14 @@ pub(crate) fn shown<C: Compression>(heap: Global, wallet: &Wallet<C>) -> Result<
         .collect(heap)?;
     Ok(Shown::Wallet {
         count: wallet.count(),
-        roots: *wallet.roots(),
+        roots: Box::new(heap, *wallet.roots())?,
         shelf,
     })
 }
 
-// take block, check block, watch block, let_go #position, show #position,#length and take_back.
+// take block, check block, watch block, let_go #position, show #position,#length and take_back. Kept out of line: a script without a
+// wallet then pays no stack for its tables.
+#[inline(never)]
 pub(crate) fn ask<C: Compression>(
     heap: Global,
     wallet: &mut Wallet<C>,
